@@ -1,1 +1,4 @@
+pub mod AllBelow
+pub mod BinaryLaws
+pub mod InverseTable
 pub mod ModularLaws

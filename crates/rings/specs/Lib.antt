@@ -1,2 +1,5 @@
+pub mod AllBelow
+pub mod Binary
 pub mod Meaning
+pub mod Mod101
 pub mod Modular
