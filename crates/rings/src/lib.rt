@@ -4,6 +4,7 @@ pub mod field;
 mod inverses;
 pub mod mod101;
 pub mod ring;
+pub mod theorems;
 pub mod words;
 
 pub use binary::Binary;
@@ -15,5 +16,6 @@ pub use mod101::Mod101Field;
 pub use mod101::Mod101Ring;
 pub use ring::Ring;
 pub use ring::is_code;
+pub use theorems::powers_make_a_field;
 pub use words::Words;
 pub use words::WordsRing;
