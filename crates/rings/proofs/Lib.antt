@@ -1,8 +1,13 @@
 pub mod AllBelow
 pub mod BinaryLaws
+pub mod ByteLaws
+pub mod ByteProduct
 pub mod CycleLaws
 pub mod InverseTable
 pub mod ModularLaws
 pub mod PassedLaws
 pub mod Pigeonhole
 pub mod PlacesInList
+pub mod SameProduct
+pub mod ThreeTables
+pub mod XorLinear

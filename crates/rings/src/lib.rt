@@ -1,15 +1,21 @@
 mod below;
 pub mod binary;
+pub mod bytes;
 pub mod field;
 mod inverses;
 pub mod mod101;
+mod powers;
 pub mod ring;
 pub mod theorems;
+mod three;
 pub mod words;
 
 pub use binary::Binary;
 pub use binary::BinaryField;
 pub use binary::BinaryRing;
+pub use bytes::Bytes;
+pub use bytes::BytesField;
+pub use bytes::BytesRing;
 pub use field::Field;
 pub use mod101::Mod101;
 pub use mod101::Mod101Field;
