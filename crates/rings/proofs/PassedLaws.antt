@@ -10,7 +10,7 @@ use lib.Dec.{eqb, ltb}
 use lib.ListN.{length}
 use Rattle.std.proofs.shelf.Tests.{and-parts, ltb-true, lt-ltb, eqb-true, cases-lt, le-ltb, cond-true, cond-false}
 use Rattle.rings.specs.ByPlaces.{power, place, next-power}
-use Rattle.rings.specs.PowersCheck.{from-one-to-255, new-at, steps-with-sum, steps-with-sums-of, are-codes, are-distinct, steps-with-sums, passes}
+use Rattle.rings.specs.PowersCheck.{nonzero-code-at, new-at, respects-xor-at, respects-xor-with, are-nonzero-codes, are-distinct, respects-xor, passes}
 use Rattle.rings.specs.PowersTheorem.{Powers-make-a-field}
 use Rattle.rings.proofs.AllBelow.{all-below-at}
 use Rattle.rings.proofs.CycleLaws.{Cycle, cycle-laws, cycle-inverts}
@@ -18,20 +18,20 @@ use Rattle.rings.proofs.Pigeonhole.{no-room}
 use Rattle.rings.proofs.PlacesInList.{stands-at-place, place-least}
 
 -- What each part of the check says.
-codes-between : (xs : List ℕ) → are-codes xs ≡ true → (i : ℕ) → i < 255 → (0 < power xs i) × (power xs i < 256)
+codes-between : (xs : List ℕ) → are-nonzero-codes xs ≡ true → (i : ℕ) → i < 255 → (0 < power xs i) × (power xs i < 256)
 codes-between xs t i h =
-    let p = and-parts (ltb 0 (power xs i)) (ltb (power xs i) 256) (all-below-at (from-one-to-255 xs) 255 t i h) in
+    let p = and-parts (ltb 0 (power xs i)) (ltb (power xs i) 256) (all-below-at (nonzero-code-at xs) 255 t i h) in
     (ltb-true 0 (power xs i) (p .0), ltb-true (power xs i) 256 (p .1))
 
 own-place : (xs : List ℕ) → are-distinct xs ≡ true → (i : ℕ) → i < 255 → place xs (power xs i) ≡ i
 own-place xs t i h = eqb-true (place xs (power xs i)) i (all-below-at (new-at xs) 255 t i h)
 
-step-of-sum : (xs : List ℕ) → steps-with-sums xs ≡ true → (a b : ℕ) → a < 256 → b < 256 → next-power xs (bitXor a b) ≡ bitXor (next-power xs a) (next-power xs b)
+step-of-sum : (xs : List ℕ) → respects-xor xs ≡ true → (a b : ℕ) → a < 256 → b < 256 → next-power xs (bitXor a b) ≡ bitXor (next-power xs a) (next-power xs b)
 step-of-sum xs t a b h k =
     eqb-true (next-power xs (bitXor a b)) (bitXor (next-power xs a) (next-power xs b))
-    (all-below-at (steps-with-sum xs a) 256 (all-below-at (steps-with-sums-of xs) 256 t a h) b k)
+    (all-below-at (respects-xor-at xs a) 256 (all-below-at (respects-xor-with xs) 256 t a h) b k)
 
-module _ (xs : List ℕ) (full : length xs ≡ 255) (codes : are-codes xs ≡ true) (distinct : are-distinct xs ≡ true) where
+module _ (xs : List ℕ) (full : length xs ≡ 255) (codes : are-nonzero-codes xs ≡ true) (distinct : are-distinct xs ≡ true) where
   positive : (i : ℕ) → i < 255 → 0 < power xs i
   positive i h = codes-between xs codes i h .0
 
@@ -81,9 +81,9 @@ module _ (xs : List ℕ) (full : length xs ≡ 255) (codes : are-codes xs ≡ tr
 
 pub passed-cycle : (xs : List ℕ) → length xs ≡ 255 → passes xs ≡ true → Cycle xs
 passed-cycle xs full ok =
-    let p = and-parts (are-codes xs) (are-distinct xs && (eqb (power xs 0) 1 && steps-with-sums xs)) ok in
-    let q = and-parts (are-distinct xs) (eqb (power xs 0) 1 && steps-with-sums xs) (p .1) in
-    let r = and-parts (eqb (power xs 0) 1) (steps-with-sums xs) (q .1) in
+    let p = and-parts (are-nonzero-codes xs) (are-distinct xs && (eqb (power xs 0) 1 && respects-xor xs)) ok in
+    let q = and-parts (are-distinct xs) (eqb (power xs 0) 1 && respects-xor xs) (p .1) in
+    let r = and-parts (eqb (power xs 0) 1) (respects-xor xs) (q .1) in
     record {
       first-is-one = eqb-true (power xs 0) 1 (r .0);
       power-positive = λ i h. codes-between xs (p .0) i h .0;

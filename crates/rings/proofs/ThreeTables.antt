@@ -12,7 +12,7 @@ use Rattle.std.proofs.shelf.Tests.{and-from, and-parts, cond-false, eq-eqb, eqb
 use Rattle.rings.specs.AllBelow.{all-below}
 use Rattle.rings.specs.ByPlaces.{power, place, next-power}
 use Rattle.rings.specs.Bytes.{polynomial-product, reduced, byte-product}
-use Rattle.rings.specs.PowersCheck.{steps-with-sum, steps-with-sums-of, are-codes, are-distinct, steps-with-sums, passes}
+use Rattle.rings.specs.PowersCheck.{respects-xor-at, respects-xor-with, are-nonzero-codes, are-distinct, respects-xor, passes}
 use Rattle.rings.specs.PowersOfThree.{three-to, powers-of-three}
 use Rattle.rings.proofs.AllBelow.{all-below-at, all-below-from}
 use Rattle.rings.proofs.ByteProduct.{byte-product-right}
@@ -41,11 +41,11 @@ entry-is-place a h = eqb-true (getD places a 0) (place powers-of-three a) (place
 step-is-triple : (a : ℕ) → a < 256 → next-power powers-of-three a ≡ byte-product 3 a
 step-is-triple a h = eqb-true (next-power powers-of-three a) (byte-product 3 a) (place-passes a h .1)
 
-powers-are-all : length powers-of-three ≡ 255
+pub powers-are-all : length powers-of-three ≡ 255
 unfolding powers-of-three
 powers-are-all = refl
 
-powers-are-codes : are-codes powers-of-three ≡ true
+powers-are-codes : are-nonzero-codes powers-of-three ≡ true
 unfolding all-below powers-of-three
 powers-are-codes = refl
 
@@ -61,16 +61,16 @@ triple-of-sum : (a b : ℕ) → a < 256 → b < 256 → next-power powers-of-thr
 triple-of-sum a b h k =
     step-is-triple (bitXor a b) (xor-lt 8 a b h k) ∙ byte-product-right 3 a b ∙ sym (ap₂ bitXor (step-is-triple a h) (step-is-triple b k))
 
-powers-step-with-sums : steps-with-sums powers-of-three ≡ true
-powers-step-with-sums =
-    all-below-from (steps-with-sums-of powers-of-three) 256 (λ a h. all-below-from (steps-with-sum powers-of-three a) 256 (λ b k.
+powers-respect-xor : respects-xor powers-of-three ≡ true
+powers-respect-xor =
+    all-below-from (respects-xor-with powers-of-three) 256 (λ a h. all-below-from (respects-xor-at powers-of-three a) 256 (λ b k.
     eq-eqb (next-power powers-of-three (bitXor a b)) (bitXor (next-power powers-of-three a) (next-power powers-of-three b)) (triple-of-sum a b h k)))
 
 pub powers-of-three-pass : passes powers-of-three ≡ true
 powers-of-three-pass =
-    and-from (are-codes powers-of-three) (are-distinct powers-of-three && (eqb (power powers-of-three 0) 1 && steps-with-sums powers-of-three)) powers-are-codes
-    (and-from (are-distinct powers-of-three) (eqb (power powers-of-three 0) 1 && steps-with-sums powers-of-three) powers-are-distinct
-    (and-from (eqb (power powers-of-three 0) 1) (steps-with-sums powers-of-three) first-is-one powers-step-with-sums))
+    and-from (are-nonzero-codes powers-of-three) (are-distinct powers-of-three && (eqb (power powers-of-three 0) 1 && respects-xor powers-of-three)) powers-are-codes
+    (and-from (are-distinct powers-of-three) (eqb (power powers-of-three 0) 1 && respects-xor powers-of-three) powers-are-distinct
+    (and-from (eqb (power powers-of-three 0) 1) (respects-xor powers-of-three) first-is-one powers-respect-xor))
 
 pub three-cycle : Cycle powers-of-three
 three-cycle = passed-cycle powers-of-three powers-are-all powers-of-three-pass

@@ -1,6 +1,7 @@
 pub mod AllBelow
 pub mod Binary
 pub mod ByPlaces
+pub mod ByteTheorem
 pub mod Bytes
 pub mod Meaning
 pub mod Mod101
