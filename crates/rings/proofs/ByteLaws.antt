@@ -8,7 +8,7 @@ use lib.Dec.{eqb}
 use Rattle.std.proofs.shelf.Bits.{pow-below}
 use Rattle.std.proofs.shelf.Tests.{eqb-true}
 use Rattle.rings.specs.AllBelow.{all-below}
-use Rattle.rings.specs.ByPlaces.{product-by-places, by-places, inverse-by-places}
+use Rattle.rings.specs.Powers.{product-by-places, by-places, inverse-by-places}
 use Rattle.rings.specs.Bytes.{polynomial-product, reduced, byte-product, bytes}
 use Rattle.rings.specs.Meaning.{Laws, Inverse}
 use Rattle.rings.specs.PowersOfThree.{powers-of-three, byte-inverse}
@@ -16,7 +16,7 @@ use Rattle.rings.proofs.AllBelow.{all-below-at}
 use Rattle.rings.proofs.ByteProduct.{byte-product-left, byte-product-right}
 use Rattle.rings.proofs.CycleLaws.{cycle-laws, cycle-inverts}
 use Rattle.rings.proofs.SameProduct.{same-laws, same-inverse}
-use Rattle.rings.proofs.ThreeTables.{three-cycle}
+use Rattle.rings.proofs.ThreePowers.{three-cycle}
 use Rattle.rings.proofs.XorLinear.{Xor-linear, equal-from-powers-of-two}
 
 abbrev times : ℕ → ℕ → ℕ

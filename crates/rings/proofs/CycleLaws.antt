@@ -9,7 +9,7 @@ use lib.Bits.{bitXor, xor-comm, xor-assoc, xor-zero-r, xor-self, xor-lt}
 use lib.Dec.{eqb, lit≤}
 use Rattle.std.specs.declared.option.Option.the-variants.{Some, None}
 use Rattle.std.proofs.shelf.Tests.{cond-false, cond-both, ne-eqb}
-use Rattle.rings.specs.ByPlaces.{power, place, next-power, product-by-places, by-places, inverse-by-places}
+use Rattle.rings.specs.Powers.{power, place, next-power, product-by-places, by-places, inverse-by-places}
 use Rattle.rings.specs.Meaning.{Laws, Inverse}
 
 pub record Cycle (xs : List ℕ) : Type 0 where

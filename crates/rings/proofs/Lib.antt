@@ -9,5 +9,5 @@ pub mod PassedLaws
 pub mod Pigeonhole
 pub mod PlacesInList
 pub mod SameProduct
-pub mod ThreeTables
+pub mod ThreePowers
 pub mod XorLinear

@@ -9,9 +9,9 @@ use lib.Bits.{bitXor}
 use lib.Dec.{eqb, ltb}
 use lib.ListN.{length}
 use Rattle.std.proofs.shelf.Tests.{and-parts, ltb-true, lt-ltb, eqb-true, cases-lt, le-ltb, cond-true, cond-false}
-use Rattle.rings.specs.ByPlaces.{power, place, next-power}
+use Rattle.rings.specs.Powers.{power, place, next-power}
 use Rattle.rings.specs.PowersCheck.{nonzero-code-at, new-at, respects-xor-at, respects-xor-with, are-nonzero-codes, are-distinct, respects-xor, passes}
-use Rattle.rings.specs.PowersTheorem.{Powers-make-a-field}
+use Rattle.rings.specs.PowerTheorems.{Powers-make-a-field}
 use Rattle.rings.proofs.AllBelow.{all-below-at}
 use Rattle.rings.proofs.CycleLaws.{Cycle, cycle-laws, cycle-inverts}
 use Rattle.rings.proofs.Pigeonhole.{no-room}

@@ -8,7 +8,7 @@ use native.Mathlib.Omega.{arith}
 use lib.Dec.{eqb}
 use lib.ListN.{length}
 use Rattle.std.proofs.shelf.Tests.{cond-true, cond-false, eq-eqb, ne-eqb, cases-eq}
-use Rattle.rings.specs.ByPlaces.{power, place}
+use Rattle.rings.specs.Powers.{power, place}
 
 pub place-here : (x : ℕ) (xs : List ℕ) (a : ℕ) → x ≡ a → place (x ∷ xs) a ≡ 0
 place-here x xs a e = cond-true (eqb x a) 0 (suc (place xs a)) (eq-eqb x a e)

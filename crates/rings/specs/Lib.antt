@@ -1,11 +1,10 @@
 pub mod AllBelow
 pub mod Binary
-pub mod ByPlaces
-pub mod ByteTheorem
 pub mod Bytes
 pub mod Meaning
 pub mod Mod101
 pub mod Modular
+pub mod PowerTheorems
+pub mod Powers
 pub mod PowersCheck
 pub mod PowersOfThree
-pub mod PowersTheorem

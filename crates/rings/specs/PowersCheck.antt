@@ -5,7 +5,7 @@ use Prim.Native.Nat.{ℕ}
 use lib.Bits.{bitXor}
 use lib.Dec.{eqb, ltb}
 use Rattle.rings.specs.AllBelow.{all-below}
-use Rattle.rings.specs.ByPlaces.{power, place, next-power}
+use Rattle.rings.specs.Powers.{power, place, next-power}
 
 abbrev pub nonzero-code-at : List ℕ → ℕ → Bool
 nonzero-code-at xs i = ltb 0 (power xs i) && ltb (power xs i) 256

@@ -3,7 +3,7 @@ use mathlib.Core.List.{List, [], _∷_}
 use Prim.Native.Nat.{ℕ, zero, suc}
 use Rattle.std.specs.declared.option.Option.{Option}
 use Rattle.rings.specs.Bytes.{byte-product}
-use Rattle.rings.specs.ByPlaces.{inverse-by-places}
+use Rattle.rings.specs.Powers.{inverse-by-places}
 
 unfoldable pub three-to : ℕ → ℕ
 three-to zero = 1

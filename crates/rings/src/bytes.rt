@@ -8,9 +8,9 @@ use crate::field::Field;
 use crate::powers::Powers;
 use crate::powers::inverse_by_places;
 use crate::powers::product_by_places;
+use crate::powers_of_three::place_among_powers;
+use crate::powers_of_three::power_of_three;
 use crate::ring::Ring;
-use crate::three::place_among_powers;
-use crate::three::power_of_three;
 
 // The byte field of FIPS 197.
 #[derive(Clone, Copy)]

@@ -2,7 +2,7 @@ ghost use Rattle.rings.specs.Mod101.{mod101-inverse};
 ghost use Rattle.rings.specs.Modular.{modular};
 use crate::below::below;
 use crate::field::Field;
-use crate::inverses::inverse_at;
+use crate::mod101_inverses::inverse_at;
 use crate::ring::Ring;
 
 // The integers modulo 101.

@@ -1,7 +1,7 @@
 ghost use mathlib.Core.List.{List};
 ghost use mathlib.Core.Path.{_≡_};
 ghost use Prim.Native.Nat.{ℕ, _<_};
-ghost use Rattle.rings.specs.ByPlaces.{power, place, product-by-places, inverse-by-places};
+ghost use Rattle.rings.specs.Powers.{power, place, product-by-places, inverse-by-places};
 
 // A list of 255 powers, read by place, and the place of each code in it.
 pub trait Powers: Copy {

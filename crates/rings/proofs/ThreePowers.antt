@@ -10,7 +10,7 @@ use lib.Dec.{eqb}
 use lib.ListN.{length, getD}
 use Rattle.std.proofs.shelf.Tests.{and-from, and-parts, cond-false, eq-eqb, eqb-true, ne-eqb}
 use Rattle.rings.specs.AllBelow.{all-below}
-use Rattle.rings.specs.ByPlaces.{power, place, next-power}
+use Rattle.rings.specs.Powers.{power, place, next-power}
 use Rattle.rings.specs.Bytes.{polynomial-product, reduced, byte-product}
 use Rattle.rings.specs.PowersCheck.{respects-xor-at, respects-xor-with, are-nonzero-codes, are-distinct, respects-xor, passes}
 use Rattle.rings.specs.PowersOfThree.{three-to, powers-of-three}

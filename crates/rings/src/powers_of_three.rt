@@ -1,6 +1,6 @@
 ghost use mathlib.Core.Path.{_≡_};
 ghost use Prim.Native.Nat.{_<_};
-ghost use Rattle.rings.specs.ByPlaces.{power, place};
+ghost use Rattle.rings.specs.Powers.{power, place};
 ghost use Rattle.rings.specs.PowersOfThree.{three-to, powers-of-three};
 
 // The powers of 3 in the byte field, from the power 0 on.

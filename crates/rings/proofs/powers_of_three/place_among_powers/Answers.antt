@@ -1,8 +1,8 @@
 use mathlib.Core.Path.{_≡_, subst, sym}
 use Prim.Native.Nat.{ℕ}
 use Rattle.rings.specs.PowersOfThree.{three-to}
-use Rattle.rings.proofs.ThreeTables.{places, entry-is-place, power-of-place}
-use Rattle.rings.proofs.three.place_among_powers.Needs as need
+use Rattle.rings.proofs.ThreePowers.{places, entry-is-place, power-of-place}
+use Rattle.rings.proofs.powers_of_three.place_among_powers.Needs as need
 
 pub returns : need.returns
 unfolding places
