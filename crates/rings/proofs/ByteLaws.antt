@@ -8,7 +8,7 @@ use lib.Dec.{eqb}
 use Rattle.std.proofs.shelf.Bits.{pow-below}
 use Rattle.std.proofs.shelf.Tests.{eqb-true}
 use Rattle.rings.specs.AllBelow.{all-below}
-use Rattle.rings.specs.Powers.{product-by-places, by-places, inverse-by-places}
+use Rattle.rings.specs.Powers.{product-by-places, by-places}
 use Rattle.rings.specs.Bytes.{polynomial-product, reduced, byte-product, bytes}
 use Rattle.rings.specs.Meaning.{Laws, Inverse}
 use Rattle.rings.specs.PowersOfThree.{powers-of-three, byte-inverse}

@@ -1,6 +1,6 @@
 -- The remainders on division by q keep the laws of a ring, for every size q.
 use mathlib.Core.Path.{_≡_, sym, ap, _∙_}
-use Prim.Native.Nat.{ℕ, _+_, _-_, _*_, _/_, _%_, _^_, _<_, _≤_}
+use Prim.Native.Nat.{ℕ, _+_, _-_, _*_, _/_, _%_, _^_, _≤_}
 use native.Mathlib.Nat.{add-comm, add-assoc, add-zero, mul-comm, mul-assoc, mul-one, mul-add, add-mul, mod-lt, mod-eq-of-lt, mod-self, mod-add-mod, add-mod-mod, mod-add-div, add-mul-mod-self-left}
 use native.Mathlib.Omega.{arith}
 use Rattle.rings.specs.Meaning.{Laws}

@@ -1,4 +1,4 @@
-use mathlib.Core.Path.{refl, _∙_}
+use mathlib.Core.Path.{refl}
 use Rattle.rings.specs.Bytes.{polynomial-product, reduced, byte-product}
 use Rattle.rings.proofs.examples.as_published.Needs as need
 
