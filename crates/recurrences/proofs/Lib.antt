@@ -1,0 +1,5 @@
+pub mod AllCodes
+pub mod Discrepancies
+pub mod FirstFailure
+pub mod Rooms
+pub mod Summing

@@ -1,0 +1,10 @@
+mod codes;
+mod discrepancy;
+pub mod fits;
+pub mod limits;
+pub mod refusal;
+pub mod worked;
+
+pub use limits::GREATEST_BOUND;
+pub use limits::GREATEST_SIZE;
+pub use refusal::Refusal;
