@@ -22,7 +22,7 @@ pub fn one_lane(rt: &LibcRuntime, tally: &mut Tally) -> io::Result<()> {
         'B',
         Binary,
         FitCheck {
-            what: "the recording 0,0,1,1,0,1 and the column 1,1,1,0",
+            what: "the samples 0,0,1,1,0,1 and the column 1,1,1,0",
             size: 1,
             degree: 3,
             list: &[0, 0, 1, 1, 0, 1],
@@ -50,7 +50,7 @@ pub fn one_lane(rt: &LibcRuntime, tally: &mut Tally) -> io::Result<()> {
         'P',
         Mod101,
         FitCheck {
-            what: "the recording 1,2 and the column 1,99",
+            what: "the samples 1,2 and the column 1,99",
             size: 1,
             degree: 1,
             list: &[1, 2],
@@ -64,7 +64,7 @@ pub fn one_lane(rt: &LibcRuntime, tally: &mut Tally) -> io::Result<()> {
         'P',
         Mod101,
         FitCheck {
-            what: "the recording 1,2,4,9 and the column 1,99",
+            what: "the samples 1,2,4,9 and the column 1,99",
             size: 1,
             degree: 1,
             list: &[1, 2, 4, 9],
@@ -78,7 +78,7 @@ pub fn one_lane(rt: &LibcRuntime, tally: &mut Tally) -> io::Result<()> {
         'Y',
         Bytes,
         FitCheck {
-            what: "the recording 1,3,5,15 and the column 1,3",
+            what: "the samples 1,3,5,15 and the column 1,3",
             size: 1,
             degree: 1,
             list: &[1, 3, 5, 15],
@@ -92,7 +92,7 @@ pub fn one_lane(rt: &LibcRuntime, tally: &mut Tally) -> io::Result<()> {
         'Y',
         Bytes,
         FitCheck {
-            what: "the recording 1,3,5,14 and the column 1,3",
+            what: "the samples 1,3,5,14 and the column 1,3",
             size: 1,
             degree: 1,
             list: &[1, 3, 5, 14],
@@ -106,7 +106,7 @@ pub fn one_lane(rt: &LibcRuntime, tally: &mut Tally) -> io::Result<()> {
         'W',
         Words,
         FitCheck {
-            what: "the recording 1,2147483648,0 and the column 1,2147483648",
+            what: "the samples 1,2147483648,0 and the column 1,2147483648",
             size: 1,
             degree: 1,
             list: &[1, 2147483648, 0],
@@ -120,7 +120,7 @@ pub fn one_lane(rt: &LibcRuntime, tally: &mut Tally) -> io::Result<()> {
         'W',
         Words,
         FitCheck {
-            what: "the recording 1,2 and the column 1,4294967293",
+            what: "the samples 1,2 and the column 1,4294967293",
             size: 1,
             degree: 1,
             list: &[1, 2],
