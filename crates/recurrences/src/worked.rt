@@ -15,8 +15,7 @@ use rings::WordsRing;
 pub fn worked_recordings()
     ensures words_fit { λ _. ⌜ fits-answer (2 ^ 32) (modular (2 ^ 32)) 1 1 (1 ∷ 2147483648 ∷ 0 ∷ []) (1 ∷ 2147483648 ∷ []) ≡ Ok None ⌝ }
     ensures words_fail { λ _. ⌜ fits-answer (2 ^ 32) (modular (2 ^ 32)) 1 1 (1 ∷ 2 ∷ []) (1 ∷ 4294967293 ∷ []) ≡ Ok (Some (1, 1)) ⌝ }
-{
-}
+{}
 
 pub fn fitting_words() -> Result<Option<(usize, usize)>, Refusal>
     ensures { λ r. ⌜ r ≡ Ok None ⌝ }
