@@ -6,3 +6,12 @@ pub mod Numbering
 pub mod Operations
 pub mod Reading
 pub mod Sums
+pub mod Fields
+pub mod Choice
+pub mod Degrees
+pub mod Columns
+pub mod Generators
+pub mod Pairing
+pub mod Pivot
+pub mod Step
+pub mod Run
