@@ -1,5 +1,5 @@
 -- The search for the best candidate finds the one of least degree, and of several such the lowest.
-use mathlib.Core.Path.{subst}
+use mathlib.Core.Path.{subst, _≡_, refl, _∙_, ap}
 use Prim.Native.Nat.{ℕ, zero, suc, _≤_, _<_}
 use native.Mathlib.Omega.{arith}
 use native.Mathlib.Decide.{ℕ-discrete, decLt}
@@ -8,6 +8,7 @@ use Rattle.std.specs.declared.option.Option.the-variants.{Some, None}
 use Rattle.recurrences.specs.Choice.{pick}
 use Rattle.recurrences.specs.Pivot.{best, better}
 use Rattle.recurrences.specs.Degrees.{least}
+use Rattle.recurrences.proofs.Choosing.{pick-same}
 
 abbrev pub Best : (P : ℕ → Type 0) → (ℕ → ℕ) → ℕ → Option ℕ → Type 0
 Best P d n None = (j : ℕ) → j < n → ¬ P j
@@ -29,3 +30,14 @@ pub best-is : (P : ℕ → Type 0) (c : (j : ℕ) → Dec (P j)) (d : ℕ → �
 unfolding best
 best-is P c d zero = λ j l cj. omega arith
 best-is P c d (suc n) = better-is P d n (c n) (best P c d n) (best-is P c d n)
+
+-- the search depends on which are candidates alone
+pub best-same : (P Q : ℕ → Type 0) (c : (j : ℕ) → Dec (P j)) (d : (j : ℕ) → Dec (Q j)) (g : ℕ → ℕ)
+    → ((j : ℕ) → P j → Q j) → ((j : ℕ) → Q j → P j) → (n : ℕ) → best P c g n ≡ best Q d g n
+unfolding best better
+best-same P Q c d g f h zero = refl
+best-same P Q c d g f h (suc n) = ap (better (c n) g n) (best-same P Q c d g f h n) ∙ go (best Q d g n)
+  where
+    go : (o : Option ℕ) → better (c n) g n o ≡ better (d n) g n o
+    go None = pick-same (c n) (d n) _ _ (f n) (h n)
+    go (Some b) = pick-same (c n) (d n) _ _ (f n) (h n)

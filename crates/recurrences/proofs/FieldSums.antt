@@ -1,3 +1,4 @@
+-- Finite sums in a field.
 use mathlib.Core.Path.{_≡_, refl, sym, _∙_, ap, ap₂}
 use mathlib.Core.Logic.{_≢_}
 use Prim.Native.Nat.{ℕ, zero, suc, _≤_, _<_}
@@ -88,3 +89,18 @@ module _ (F : Field) where
       go : (sum (ring-of F) n g ≢ 𝟘 → (j : ℕ) × (j < n) × (g j ≢ 𝟘)) → Dec (g n ≡ 𝟘) → (j : ℕ) × (j < suc n) × (g j ≢ 𝟘)
       go ih (no e) = (n, omega arith, e)
       go ih (yes e) = let (j, l, p) = ih (λ z. h (ap₂ _⊕_ z e ∙ F .add-zero 𝟘)) in (j, omega arith, p)
+
+  pub sum-swap : (n m : ℕ) (a : ℕ → ℕ → K) → sum (ring-of F) n (λ i. sum (ring-of F) m (λ j. a i j)) ≡ sum (ring-of F) m (λ j. sum (ring-of F) n (λ i. a i j))
+  unfolding sum
+  sum-swap zero m a = sym (sum-zero m _ (λ j _. refl))
+  sum-swap (suc n) m a = ap (λ x. x ⊕ sum (ring-of F) m (λ j. a n j)) (sum-swap n m a) ∙ sym (sum-add m _ _)
+
+  pub sum-mul-right : (n : ℕ) (k : K) (f : ℕ → K) → sum (ring-of F) n (λ i. f i ⊗ k) ≡ sum (ring-of F) n f ⊗ k
+  sum-mul-right n k f = sum-cong (ring-of F) n _ _ (λ i _. F .mul-comm _ _) ∙ sum-mul n k f ∙ F .mul-comm _ _
+
+  -- (A B) C = A (B C), at one entry
+  pub sum-assoc : (N : ℕ) (a : ℕ → K) (B : ℕ → ℕ → K) (c : ℕ → K)
+      → sum (ring-of F) N (λ j. sum (ring-of F) N (λ i. a i ⊗ B i j) ⊗ c j) ≡ sum (ring-of F) N (λ i. a i ⊗ sum (ring-of F) N (λ j. B i j ⊗ c j))
+  sum-assoc N a B c =
+      sum-cong (ring-of F) N _ _ (λ j _. sym (sum-mul-right N (c j) _)) ∙ sum-swap N N _
+      ∙ sum-cong (ring-of F) N _ _ (λ i _. sum-cong (ring-of F) N _ _ (λ j _. F .mul-assoc _ _ _) ∙ sum-mul N (a i) _)

@@ -10,6 +10,7 @@ pub mod Combinations
 pub mod LinearMaps
 pub mod Transpositions
 pub mod FieldSums
+pub mod Dependence
 pub mod Convolutions
 pub mod Totals
 pub mod Spans
@@ -27,3 +28,8 @@ pub mod RunInvariant
 pub mod PairingOff
 pub mod SettledFinal
 pub mod Inverses
+pub mod Homomorphisms
+pub mod CodesField
+pub mod Generating
+pub mod Continuations
+pub mod Consequences

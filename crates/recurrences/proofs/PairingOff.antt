@@ -33,19 +33,19 @@ module _ (F : Field) where
   infixr 70 _⊡_
   module _ (R C : ℕ) (M : Matrices (ring-of F)) where
     -- N columns with nominal degrees e that fit n matrices, and whose constant coefficients are a basis
-    pub record Generator (n : ℕ) (h : ℕ → Column (ring-of F)) (e : ℕ → ℕ) : Type 0 where
+    pub record FieldGenerator (n : ℕ) (h : ℕ → Column (ring-of F)) (e : ℕ → ℕ) : Type 0 where
       pub inside : (k : ℕ) → k < C → Inside F C (e k) (h k)
       pub fits : (k : ℕ) → k < C → Annihilates F R C M n (e k) (h k)
       pub basis : Basis F C (λ k. h k 0)
 
-    pub own-generator : (n : ℕ) (s : Columns (ring-of F)) → Holds F R C M n s → Generator n (s .gen) (s .gen-degree)
+    pub own-generator : (n : ℕ) (s : Columns (ring-of F)) → Holds F R C M n s → FieldGenerator n (s .gen) (s .gen-degree)
     own-generator n s H = record {
       inside = λ k kN. H .inside (s .gen-degree k) (s .gen k) (inl (k, kN, omega arith, refl));
       fits = λ k kN. H .fits (s .gen-degree k) (s .gen k) (inl (k, kN, omega arith, refl));
       basis = H .basis;
     }
 
-    module _ (n : ℕ) (s : Columns (ring-of F)) (H : Holds F R C M n s) (h : ℕ → Column (ring-of F)) (e : ℕ → ℕ) (g : Generator n h e) where
+    module _ (n : ℕ) (s : Columns (ring-of F)) (H : Holds F R C M n s) (h : ℕ → Column (ring-of F)) (e : ℕ → ℕ) (g : FieldGenerator n h e) where
       -- the constant coefficient of a column of degree d that fits, by those of the generator columns of degree at most d
       first-coordinates : (d : ℕ) (f : Column (ring-of F)) → Inside F C d f → Annihilates F R C M n d f
           → (γ : ℕ → K) × ((j : ℕ) → j < C → ¬ (s .gen-degree j ≤ d) → γ j ≡ 𝟘) × (f 0 ≡ comb F (VecM F) C γ (λ j. s .gen j 0))

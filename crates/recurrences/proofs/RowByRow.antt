@@ -40,7 +40,7 @@ module _ (F : Field) (C : ℕ) (entry : ℕ → ℕ → Column (ring-of F) → F
   lessen-zero p f = fun-ext (λ k. fun-ext (λ c. ap (λ x. F .add (f k c) x) (neg-mul F _ _ ∙ ap (F .neg) (zero-mul F _) ∙ neg-zero F) ∙ F .add-zero _))
 
   loss : (b : Bool) (x x' y y' : F .K) (p f : Column (ring-of F)) (d : Dec (x ≡ F .𝟘)) → (b ≡ true → x ≡ x') → y ≡ y'
-      → pick (candidate-by (ring-of F) C entry b x d) (lessen (ring-of F) (F .mul x (F .inv y)) p f) f ≡ lessen (ring-of F) (cond b (F .mul x' (F .inv y')) (F .𝟘)) p f
+      → pick (candidate-by (ring-of F) b x d) (lessen (ring-of F) (F .mul x (F .inv y)) p f) f ≡ lessen (ring-of F) (cond b (F .mul x' (F .inv y')) (F .𝟘)) p f
   unfolding pick candidate-by
   loss true x x' y y' p f (yes z) ex ey =
       sym (ap (λ a. lessen (ring-of F) a p f) (ap (λ x. F .mul x (F .inv y')) (sym (ex refl) ∙ z) ∙ zero-mul F _) ∙ lessen-zero p f)

@@ -18,7 +18,7 @@ use Rattle.recurrences.proofs.Totals.{total-lift}
 use Rattle.recurrences.proofs.Spans.{Made, made-more, made-under, made-disc}
 use Rattle.recurrences.proofs.Changes.{Gens, All}
 use Rattle.recurrences.proofs.Invariant.{Holds}
-use Rattle.recurrences.proofs.PairingOff.{Generator, own-generator, pairs-off}
+use Rattle.recurrences.proofs.PairingOff.{FieldGenerator, own-generator, pairs-off}
 use Rattle.recurrences.proofs.Bases.{coordinates, basis-same}
 
 module _ (F : Field) (R C : ℕ) (M : Matrices (ring-of F)) where
@@ -26,12 +26,12 @@ module _ (F : Field) (R C : ℕ) (M : Matrices (ring-of F)) where
 
   infixl 60 _⊕_
   infixl 70 _⊗_
-  pub fewer : (n m : ℕ) → n ≤ m → (h : ℕ → Column (ring-of F)) (e : ℕ → ℕ) → Generator F R C M m h e → Generator F R C M n h e
+  pub fewer : (n m : ℕ) → n ≤ m → (h : ℕ → Column (ring-of F)) (e : ℕ → ℕ) → FieldGenerator F R C M m h e → FieldGenerator F R C M n h e
   fewer n m nm h e g = record { inside = g .inside; fits = λ k kN l r el ln rN. g .fits k kN l r el (omega arith) rN; basis = g .basis }
 
   module _ (n m δ : ℕ) (pos : 0 < R) (nm : n ≤ m) (s : Columns (ring-of F)) (H : Holds F R C M n s)
       (settled : (i j : ℕ) → i < R → j < C → δ + s .gen-degree j < s .aux-degree i + total C (s .gen-degree))
-      (h : ℕ → Column (ring-of F)) (e : ℕ → ℕ) (g : Generator F R C M m h e) (small : total C e ≤ δ) where
+      (h : ℕ → Column (ring-of F)) (e : ℕ → ℕ) (g : FieldGenerator F R C M m h e) (small : total C e ≤ δ) where
     under-aux : (k i : ℕ) → k < C → i < R → e k < s .aux-degree i
     under-aux k i kN iN =
         let (π, le, same) = pairs-off F R C M n s H h e (fewer n m nm h e g) in
@@ -138,7 +138,7 @@ module _ (F : Field) (R C : ℕ) (M : Matrices (ring-of F)) where
             ap (convolution (ring-of F) C M l r) p ∙ on-comb F (ColM F) (KM F) (convolution (ring-of F) C M l r) (convolution-linear F C M l r) C ε a
             ∙ comb-vanish F (KM F) C ε (λ k. convolution (ring-of F) C M l r (a k)) (λ k kN. ap (λ y. ε k ⊗ y) (a-zero l (omega arith) lm (subst Before lL' ih) r rN k kN) ∙ mul-zero F _)
 
-    pub stays-generator : Generator F R C M m (s .gen) (s .gen-degree)
+    pub stays-generator : FieldGenerator F R C M m (s .gen) (s .gen-degree)
     unfolding Before
     stays-generator = record {
       inside = own-generator F R C M n s H .inside;

@@ -15,3 +15,6 @@ pub mod Pairing
 pub mod Pivot
 pub mod Step
 pub mod Run
+pub mod Phases
+pub mod Continuation
+pub mod Theorems

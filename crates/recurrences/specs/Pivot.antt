@@ -31,6 +31,12 @@ pub record Midstep (O : Operations) : Type 0 where
   pub columns : Columns O
   pub opened : ℕ → Bool
 
+-- whether a column is open and its entry x is not zero
+unfoldable pub candidate-by : (O : Operations) (b : Bool) (x : O .K) → Dec (x ≡ O .𝟘) → Dec ((b ≡ true) × (x ≢ O .𝟘))
+candidate-by O true x (yes z) = no (λ p. p .1 z)
+candidate-by O true x (no z) = yes (refl, z)
+candidate-by O false x d = no (λ p. false≢true (p .0))
+
 -- `entry i d f` is entry i of the discrepancy of the column f of degree d at the place of the matrix taken
 module _ (O : Operations) (C : ℕ) (entry : ℕ → ℕ → Column O → O .K) where
   abbrev pub gen-entry : Midstep O → ℕ → ℕ → O .K
@@ -43,13 +49,8 @@ module _ (O : Operations) (C : ℕ) (entry : ℕ → ℕ → Column O → O .K) 
   abbrev pub Candidate : Midstep O → ℕ → ℕ → Type 0
   Candidate t i j = (t .opened j ≡ true) × (gen-entry t i j ≢ O .𝟘)
 
-  unfoldable pub candidate-by : (b : Bool) (x : O .K) → Dec (x ≡ O .𝟘) → Dec ((b ≡ true) × (x ≢ O .𝟘))
-  candidate-by true x (yes z) = no (λ p. p .1 z)
-  candidate-by true x (no z) = yes (refl, z)
-  candidate-by false x d = no (λ p. false≢true (p .0))
-
   unfoldable pub candidate : (t : Midstep O) (i j : ℕ) → Dec (Candidate t i j)
-  candidate t i j = candidate-by (t .opened j) (gen-entry t i j) (O .dec (gen-entry t i j) (O .𝟘))
+  candidate t i j = candidate-by O (t .opened j) (gen-entry t i j) (O .dec (gen-entry t i j) (O .𝟘))
 
   -- the pivot of row i: the number of an open column, or none where it is the auxiliary column i
   unfoldable pub pivot : ℕ → Midstep O → Option ℕ

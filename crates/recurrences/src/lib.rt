@@ -2,9 +2,12 @@ mod codes;
 mod discrepancy;
 pub mod fits;
 pub mod limits;
+pub mod phase;
 pub mod refusal;
 pub mod worked;
 
 pub use limits::GREATEST_BOUND;
 pub use limits::GREATEST_SIZE;
+pub use phase::Phase;
+pub use phase::phase_of;
 pub use refusal::Refusal;
