@@ -116,10 +116,10 @@ module _ (A B : FieldOperations) (H : FieldMap A B) where
     zero-from : (i d : ℕ) (f : Column (A .ring)) → EB i d (col f) ≡ B .ring .𝟘 → EA i d f ≡ A .ring .𝟘
     zero-from i d f e = H .only-zero _ (same i d f ∙ e)
 
-    candidate-to : (t : Midstep (A .ring)) (i j : ℕ) → Candidate (A .ring) C EA t i j → Candidate (B .ring) C EB (mid t) i j
+    pub candidate-to : (t : Midstep (A .ring)) (i j : ℕ) → Candidate (A .ring) C EA t i j → Candidate (B .ring) C EB (mid t) i j
     candidate-to t i j (v, z) = (v, λ e. z (zero-from i _ _ e))
 
-    candidate-from : (t : Midstep (A .ring)) (i j : ℕ) → Candidate (B .ring) C EB (mid t) i j → Candidate (A .ring) C EA t i j
+    pub candidate-from : (t : Midstep (A .ring)) (i j : ℕ) → Candidate (B .ring) C EB (mid t) i j → Candidate (A .ring) C EA t i j
     candidate-from t i j (v, z) = (v, λ e. z (zero-to i _ _ e))
 
     quotient-map : (x y : A .ring .K) (x' y' : B .ring .K) → φ x ≡ x' → φ y ≡ y' → φ (quotient A x y) ≡ quotient B x' y'
@@ -169,13 +169,15 @@ module _ (A B : FieldOperations) (H : FieldMap A B) where
     row-by-map i t None = by-auxiliary-map i t
     row-by-map i t (Some l) = by-open-map i l t
 
-    row-map : (i : ℕ) (t : Midstep (A .ring)) → mid (row A C EA i t) ≡ row B C EB i (mid t)
-    unfolding row pivot
-    row-map i t =
-        row-by-map i t _
-        ∙ ap (λ o. row-by B C EB i (mid t) (against (t .columns .aux-degree i) (t .columns .gen-degree) o))
+    pub pivot-map : (i : ℕ) (t : Midstep (A .ring)) → pivot (A .ring) C EA i t ≡ pivot (B .ring) C EB i (mid t)
+    unfolding pivot
+    pivot-map i t = ap (against (t .columns .aux-degree i) (t .columns .gen-degree))
         (best-same (Candidate (A .ring) C EA t i) (Candidate (B .ring) C EB (mid t) i) (candidate (A .ring) C EA t i) (candidate (B .ring) C EB (mid t) i) (t .columns .gen-degree)
         (candidate-to t i) (candidate-from t i) C)
+
+    row-map : (i : ℕ) (t : Midstep (A .ring)) → mid (row A C EA i t) ≡ row B C EB i (mid t)
+    unfolding row
+    row-map i t = row-by-map i t _ ∙ ap (row-by B C EB i (mid t)) (pivot-map i t)
 
     pub rows-map : (i : ℕ) (t : Midstep (A .ring)) → mid (rows A C EA i t) ≡ rows B C EB i (mid t)
     unfolding rows

@@ -33,3 +33,9 @@ pub mod CodesField
 pub mod Generating
 pub mod Continuations
 pub mod Consequences
+pub mod PhaseFacts
+pub mod OnNumbers
+pub mod RunTheorems
+pub mod ContinuationTheorem
+pub mod MidstepFacts
+pub mod MidstepTheorems

@@ -18,3 +18,4 @@ pub mod Run
 pub mod Phases
 pub mod Continuation
 pub mod Theorems
+pub mod Midsteps

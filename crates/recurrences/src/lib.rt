@@ -5,9 +5,12 @@ pub mod limits;
 pub mod phase;
 pub mod refusal;
 pub mod worked;
+pub mod theorems;
 
 pub use limits::GREATEST_BOUND;
 pub use limits::GREATEST_SIZE;
 pub use phase::Phase;
 pub use phase::phase_of;
 pub use refusal::Refusal;
+pub use theorems::degrees_are_least_and_final;
+pub use theorems::steps_stay_in_bounds;
