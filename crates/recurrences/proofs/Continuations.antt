@@ -8,7 +8,8 @@ use Rattle.recurrences.specs.Discrepancy.{Column, Matrices}
 use Rattle.recurrences.specs.Choice.{put}
 use Rattle.recurrences.specs.Generators.{Undoes, Generates}
 use Rattle.recurrences.proofs.Convolutions.{convolution, discrepancy-is}
-use Rattle.recurrences.proofs.FieldSums.{sum-assoc, sum-head, sum-cong}
+use Rattle.recurrences.proofs.FieldSums.{sum-assoc, sum-head}
+use Rattle.recurrences.proofs.Summing.{sum-same}
 use Rattle.recurrences.proofs.Choosing.{put-here, put-away}
 use Rattle.recurrences.proofs.UnitVectors.{sum-unit}
 use Rattle.recurrences.proofs.FieldLaws.{Field, neg-unique, ring-of}
@@ -29,7 +30,7 @@ module _ (F : Field) (C : ℕ) where
       sum-head F l _
       ∙ ap₂ _⊕_
       (ap (λ (m : ℕ → ℕ → K). sum (ring-of F) C (λ c. m r c ⊗ f 0 c)) (put-here l X M (l - 0) (omega arith)))
-      (sum-cong (ring-of F) l _ _ (λ k kl. ap (λ (m : ℕ → ℕ → K). sum (ring-of F) C (λ c. m r c ⊗ f (suc k) c)) (put-away l X M (l - suc k) (omega arith))))
+      (sum-same (ring-of F) l _ _ (λ k kl. ap (λ (m : ℕ → ℕ → K). sum (ring-of F) C (λ c. m r c ⊗ f (suc k) c)) (put-away l X M (l - suc k) (omega arith))))
 
   -- B is the inverse of the constant coefficients of the columns g
   module _ (g : ℕ → Column (ring-of F)) (B : ℕ → ℕ → K) (left : Undoes (ring-of F) C B (λ c j. g j 0 c)) (right : Undoes (ring-of F) C (λ c j. g j 0 c) B)
@@ -43,14 +44,14 @@ module _ (F : Field) (C : ℕ) where
       where
         whole : sum (ring-of F) C (λ c. solution r c ⊗ g j 0 c) ≡ ⊖ (behind M l r (g j))
         whole = sum-assoc F C _ B (λ c. g j 0 c)
-            ∙ sum-cong (ring-of F) C _ _ (λ i iC. ap (λ x. ⊖ (behind M l r (g i)) ⊗ x) (left i j iC jC)) ∙ sum-unit F C (λ i. ⊖ (behind M l r (g i))) j jC
+            ∙ sum-same (ring-of F) C _ _ (λ i iC. ap (λ x. ⊖ (behind M l r (g i)) ⊗ x) (left i j iC jC)) ∙ sum-unit F C (λ i. ⊖ (behind M l r (g i))) j jC
 
     pub only-solution : (Y : ℕ → ℕ → K) (r : ℕ) → ((j : ℕ) → j < C → convolution (ring-of F) C (put l Y M) l r (g j) ≡ 𝟘) → (c : ℕ) → c < C → Y r c ≡ solution r c
     unfolding solution
     only-solution Y r z c cC =
-        sym (sum-unit F C (Y r) c cC) ∙ sum-cong (ring-of F) C _ _ (λ b bC. ap (λ x. Y r b ⊗ x) (sym (right b c bC cC)))
+        sym (sum-unit F C (Y r) c cC) ∙ sum-same (ring-of F) C _ _ (λ b bC. ap (λ x. Y r b ⊗ x) (sym (right b c bC cC)))
         ∙ sym (sum-assoc F C (Y r) (λ b j. g j 0 b) (λ j. B j c))
-        ∙ sum-cong (ring-of F) C _ _ (λ j jC. ap (λ x. x ⊗ B j c) (neg-unique F (behind M l r (g j)) _ (F .add-comm _ _ ∙ sym (placed M Y l r (g j)) ∙ z j jC)))
+        ∙ sum-same (ring-of F) C _ _ (λ j jC. ap (λ x. x ⊗ B j c) (neg-unique F (behind M l r (g j)) _ (F .add-comm _ _ ∙ sym (placed M Y l r (g j)) ∙ z j jC)))
 
 -- the same in the words of the definition
 module _ (F : Field) (R C : ℕ) (N : Matrices (ring-of F)) (n : ℕ) (g : ℕ → Column (ring-of F)) (d : ℕ → ℕ) (G : Generates (ring-of F) R C N n g d)

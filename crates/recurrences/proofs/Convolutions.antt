@@ -6,7 +6,8 @@ use Rattle.recurrences.specs.Generators.{Ends}
 use Rattle.recurrences.specs.Columns.{shift}
 use Rattle.recurrences.specs.Operations.{Operations}
 use Rattle.recurrences.specs.Sums.{sum}
-use Rattle.recurrences.proofs.FieldSums.{sum-cong, sum-add, sum-mul, sum-zero, sum-head, sum-cut}
+use Rattle.recurrences.proofs.Summing.{sum-same}
+use Rattle.recurrences.proofs.FieldSums.{sum-add, sum-mul, sum-zero, sum-head, sum-cut}
 use Rattle.recurrences.proofs.LinearMaps.{Linear}
 use Rattle.recurrences.proofs.FieldLaws.{ring-of, Field, mul-zero, mul-left-comm}
 use Rattle.recurrences.proofs.Vectors.{KM, ColM}
@@ -23,8 +24,8 @@ module _ (F : Field) where
   pub convolution-linear : (C : ℕ) (M : Matrices (ring-of F)) (l r : ℕ) → Linear F (ColM F) (KM F) (convolution (ring-of F) C M l r)
   unfolding convolution
   convolution-linear C M l r = record {
-    on-add = λ f g. sum-cong (ring-of F) (suc l) _ _ (λ k _. sum-cong (ring-of F) C _ _ (λ c _. F .mul-add _ _ _) ∙ sum-add F C _ _) ∙ sum-add F (suc l) _ _;
-    on-smul = λ a f. sum-cong (ring-of F) (suc l) _ _ (λ k _. sum-cong (ring-of F) C _ _ (λ c _. mul-left-comm F _ _ _) ∙ sum-mul F C a _) ∙ sum-mul F (suc l) a _;
+    on-add = λ f g. sum-same (ring-of F) (suc l) _ _ (λ k _. sum-same (ring-of F) C _ _ (λ c _. F .mul-add _ _ _) ∙ sum-add F C _ _) ∙ sum-add F (suc l) _ _;
+    on-smul = λ a f. sum-same (ring-of F) (suc l) _ _ (λ k _. sum-same (ring-of F) C _ _ (λ c _. mul-left-comm F _ _ _) ∙ sum-mul F C a _) ∙ sum-mul F (suc l) a _;
   }
 
   pub shift-linear : Linear F (ColM F) (ColM F) (shift (ring-of F))
@@ -38,7 +39,7 @@ module _ (F : Field) where
   unfolding convolution shift
   convolution-shift C M l r f =
       sum-head F (suc l) (λ k. sum (ring-of F) C (λ c. M (suc l - k) r c ⊗ shift (ring-of F) f k c))
-      ∙ ap₂ _⊕_ (sum-zero F C _ (λ c _. mul-zero F _)) (sum-cong (ring-of F) (suc l) _ _ (λ k h. ap (λ m. sum (ring-of F) C (λ c. M m r c ⊗ f k c)) (sub k)))
+      ∙ ap₂ _⊕_ (sum-zero F C _ (λ c _. mul-zero F _)) (sum-same (ring-of F) (suc l) _ _ (λ k h. ap (λ m. sum (ring-of F) C (λ c. M m r c ⊗ f k c)) (sub k)))
       ∙ F .add-comm _ _ ∙ F .add-zero _
     where
       sub : (k : ℕ) → suc l - suc k ≡ l - k

@@ -6,13 +6,11 @@ use Rattle.std.specs.declared.option.Option.{Option}
 use Rattle.std.specs.declared.option.Option.the-variants.{Some, None}
 use Rattle.recurrences.specs.Operations.{Operations}
 use Rattle.recurrences.specs.Fields.{FieldOperations}
-use Rattle.recurrences.specs.Sums.{sum}
 use Rattle.recurrences.specs.Discrepancy.{Matrices, Column, discrepancy}
-use Rattle.recurrences.specs.Columns.{Columns}
 use Rattle.recurrences.specs.Pivot.{Midstep, candidate, pivot}
 use Rattle.recurrences.specs.Step.{reduced, by-auxiliary, moved, traded, copied, by-open, row-by, row, rows, at-first, shifted, step}
 use Rattle.recurrences.specs.Run.{entry-at, run}
-use Rattle.recurrences.proofs.FieldSums.{sum-cong}
+use Rattle.recurrences.proofs.Summing.{sum-same}
 
 module _ (O : Operations) (C : ℕ) where
   pub discrepancy-cong : (M N : Matrices O) (f g : Column O) (d l r : ℕ)
@@ -20,7 +18,7 @@ module _ (O : Operations) (C : ℕ) where
       → discrepancy O C M f d l r ≡ discrepancy O C N g d l r
   unfolding discrepancy
   discrepancy-cong M N f g d l r h =
-      sum-cong O (suc (min l d)) _ _ (λ k kl. sum-cong O C _ _ (λ c cC. h (l - k) k c (omega arith) (omega arith) cC))
+      sum-same O (suc (min l d)) _ _ (λ k kl. sum-same O C _ _ (λ c cC. h (l - k) k c (omega arith) (omega arith) cC))
 
 -- row i rests on the entries of row i alone
 module _ (O : FieldOperations) (C : ℕ) (E : ℕ → ℕ → Column (O .ring) → O .ring .K) where

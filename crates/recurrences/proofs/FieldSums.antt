@@ -5,19 +5,13 @@ use Prim.Native.Nat.{ℕ, zero, suc, _≤_, _<_}
 use native.Mathlib.Omega.{arith}
 use native.Mathlib.Decide.{ℕ-discrete, decLe}
 use Rattle.recurrences.specs.Choice.{put}
-use Rattle.recurrences.specs.Operations.{Operations}
 use Rattle.recurrences.specs.Sums.{sum}
 use Rattle.recurrences.proofs.FieldLaws.{ring-of, Field, mul-zero}
 use Rattle.recurrences.proofs.Choosing.{put-here, put-away}
 use Rattle.recurrences.proofs.Transpositions.{flip, flip-left, flip-right, flip-away}
 use Rattle.recurrences.proofs.Vectors.{KM}
 use Rattle.recurrences.proofs.Combinations.{vadd-four}
-
--- equal terms have equal sums, whatever the laws
-pub sum-cong : (O : Operations) (n : ℕ) (f g : ℕ → O .K) → ((i : ℕ) → i < n → f i ≡ g i) → sum O n f ≡ sum O n g
-unfolding sum
-sum-cong O zero f g h = refl
-sum-cong O (suc n) f g h = ap₂ (O .add) (sum-cong O n f g (λ i l. h i (omega arith))) (h n (omega arith))
+use Rattle.recurrences.proofs.Summing.{sum-same}
 
 module _ (F : Field) where
   open Field F using (K, 𝟘, 𝟙, add as _⊕_, neg as ⊖, mul as _⊗_, inv)
@@ -63,7 +57,7 @@ module _ (F : Field) where
       swap a b c = F .add-assoc a b c ∙ ap (λ x. a ⊕ x) (F .add-comm b c) ∙ sym (F .add-assoc a c b)
 
       go : (k < n → sum (ring-of F) n (put k c g) ⊕ g k ≡ sum (ring-of F) n g ⊕ c) → Dec (n ≡ k) → (sum (ring-of F) n (put k c g) ⊕ put k c g n) ⊕ g k ≡ (sum (ring-of F) n g ⊕ g n) ⊕ c
-      go ih (yes e) = rw (put-here k c g n e, sum-cong (ring-of F) n (put k c g) g (λ i l. put-away k c g i (omega arith)), e) (swap _ _ _)
+      go ih (yes e) = rw (put-here k c g n e, sum-same (ring-of F) n (put k c g) g (λ i l. put-away k c g i (omega arith)), e) (swap _ _ _)
       go ih (no e) = rw (put-away k c g n e) (swap _ _ _ ∙ ap (λ x. x ⊕ g n) (ih (omega arith)) ∙ swap _ _ _)
 
   pub sum-flip : (n j : ℕ) (g : ℕ → K) → j < suc n → sum (ring-of F) (suc n) (λ i. g (flip j n i)) ≡ sum (ring-of F) (suc n) g
@@ -78,8 +72,8 @@ module _ (F : Field) where
       same e i l = ap g (flip-away j n i (omega arith) (omega arith))
 
       go : Dec (j ≡ n) → sum (ring-of F) n (λ i. g (flip j n i)) ⊕ g (flip j n n) ≡ sum (ring-of F) n g ⊕ g n
-      go (yes e) = ap₂ _⊕_ (sum-cong (ring-of F) n _ _ (same e)) (ap g (flip-right j n ∙ e))
-      go (no e) = ap₂ _⊕_ (sum-cong (ring-of F) n _ _ (λ i l. one i l (ℕ-discrete i j))) (ap g (flip-right j n)) ∙ sum-put n j (g n) g (omega arith)
+      go (yes e) = ap₂ _⊕_ (sum-same (ring-of F) n _ _ (same e)) (ap g (flip-right j n ∙ e))
+      go (no e) = ap₂ _⊕_ (sum-same (ring-of F) n _ _ (λ i l. one i l (ℕ-discrete i j))) (ap g (flip-right j n)) ∙ sum-put n j (g n) g (omega arith)
 
   pub sum-nonzero : (n : ℕ) (g : ℕ → K) → sum (ring-of F) n g ≢ 𝟘 → (j : ℕ) × (j < n) × (g j ≢ 𝟘)
   unfolding sum
@@ -96,11 +90,11 @@ module _ (F : Field) where
   sum-swap (suc n) m a = ap (λ x. x ⊕ sum (ring-of F) m (λ j. a n j)) (sum-swap n m a) ∙ sym (sum-add m _ _)
 
   pub sum-mul-right : (n : ℕ) (k : K) (f : ℕ → K) → sum (ring-of F) n (λ i. f i ⊗ k) ≡ sum (ring-of F) n f ⊗ k
-  sum-mul-right n k f = sum-cong (ring-of F) n _ _ (λ i _. F .mul-comm _ _) ∙ sum-mul n k f ∙ F .mul-comm _ _
+  sum-mul-right n k f = sum-same (ring-of F) n _ _ (λ i _. F .mul-comm _ _) ∙ sum-mul n k f ∙ F .mul-comm _ _
 
   -- (A B) C = A (B C), at one entry
   pub sum-assoc : (N : ℕ) (a : ℕ → K) (B : ℕ → ℕ → K) (c : ℕ → K)
       → sum (ring-of F) N (λ j. sum (ring-of F) N (λ i. a i ⊗ B i j) ⊗ c j) ≡ sum (ring-of F) N (λ i. a i ⊗ sum (ring-of F) N (λ j. B i j ⊗ c j))
   sum-assoc N a B c =
-      sum-cong (ring-of F) N _ _ (λ j _. sym (sum-mul-right N (c j) _)) ∙ sum-swap N N _
-      ∙ sum-cong (ring-of F) N _ _ (λ i _. sum-cong (ring-of F) N _ _ (λ j _. F .mul-assoc _ _ _) ∙ sum-mul N (a i) _)
+      sum-same (ring-of F) N _ _ (λ j _. sym (sum-mul-right N (c j) _)) ∙ sum-swap N N _
+      ∙ sum-same (ring-of F) N _ _ (λ i _. sum-same (ring-of F) N _ _ (λ j _. F .mul-assoc _ _ _) ∙ sum-mul N (a i) _)

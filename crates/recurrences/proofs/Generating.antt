@@ -12,7 +12,7 @@ use Rattle.recurrences.proofs.Invariant.{Inside}
 use Rattle.recurrences.proofs.Dependence.{discrepancy-cong}
 use Rattle.recurrences.proofs.Inverses.{basis-invertible, invertible-basis}
 use Rattle.recurrences.proofs.Convolutions.{discrepancy-is}
-use Rattle.recurrences.proofs.FieldSums.{sum-cong}
+use Rattle.recurrences.proofs.Summing.{sum-same}
 use Rattle.recurrences.proofs.Choosing.{pick-yes, pick-no}
 use Rattle.recurrences.proofs.FieldLaws.{Field, ring-of}
 
@@ -41,8 +41,8 @@ module _ (F : Field) (R C : ℕ) (M : Matrices (ring-of F)) (n : ℕ) where
       basis = invertible-basis F C (λ j. trimmed (h j) 0) (λ j jC c cC. inside j jC 0 c (inr cC))
           record {
             B = g .inverse;
-            left = λ i k iC kC. sum-cong (ring-of F) C _ _ (λ c cC. ap (λ x. g .inverse i c ⊗ x) (trimmed-is (h k) 0 c cC)) ∙ g .inverse-left i k iC kC;
-            right = λ i k iC kC. sum-cong (ring-of F) C _ _ (λ j jC. ap (λ x. x ⊗ g .inverse j k) (trimmed-is (h j) 0 i iC)) ∙ g .inverse-right i k iC kC;
+            left = λ i k iC kC. sum-same (ring-of F) C _ _ (λ c cC. ap (λ x. g .inverse i c ⊗ x) (trimmed-is (h k) 0 c cC)) ∙ g .inverse-left i k iC kC;
+            right = λ i k iC kC. sum-same (ring-of F) C _ _ (λ j jC. ap (λ x. x ⊗ g .inverse j k) (trimmed-is (h j) 0 i iC)) ∙ g .inverse-right i k iC kC;
           };
     },
   )

@@ -12,7 +12,7 @@ use Rattle.recurrences.proofs.Combinations.{comb, comb-lin, comb-comb, comb-co
 use Rattle.recurrences.proofs.Choosing.{pick-yes, pick-no}
 use Rattle.recurrences.proofs.Vectors.{KM, VecM}
 use Rattle.recurrences.proofs.LinearMaps.{on-comb, at-index}
-use Rattle.recurrences.proofs.FieldSums.{sum-cong}
+use Rattle.recurrences.proofs.Summing.{sum-same}
 use Rattle.recurrences.proofs.Bases.{Basis, One, coordinates, basis-same}
 use Rattle.recurrences.proofs.UnitVectors.{by-entries, comb-unit, unit-sym, comb-sum}
 
@@ -46,13 +46,13 @@ module _ (F : Field) where
       basis-invertible = record {
         B = λ j c. β c (decLt c N) j;
         left = λ i k iN kN.
-            sum-cong (ring-of F) N _ _ (λ c _. F .mul-comm _ _)
+            sum-same (ring-of F) N _ _ (λ c _. F .mul-comm _ _)
             ∙ basis-same F N v b (λ i. sum (ring-of F) N (λ c. v k c ⊗ β c (decLt c N) i)) (λ i. unit (ring-of F) i k)
             (sym (comb-comb F (VecM F) N N (v k) (λ c. β c (decLt c N)) v (λ m i. sum (ring-of F) m (λ c. v k c ⊗ β c (decLt c N) i)) (λ i. refl) (λ m i. refl))
             ∙ comb-cong-r F (VecM F) N (v k) _ _ (λ c cN. sym (β-is c cN (decLt c N)))
             ∙ sym (by-entries F N (v k) (out k kN)) ∙ sym (comb-unit F N k v kN)) i iN;
         right = λ c c' cN cN'.
-            sum-cong (ring-of F) N _ _ (λ j _. F .mul-comm _ _) ∙ sym (comb-sum F N (β c' (decLt c' N)) (λ j. v j c))
+            sum-same (ring-of F) N _ _ (λ j _. F .mul-comm _ _) ∙ sym (comb-sum F N (β c' (decLt c' N)) (λ j. v j c))
             ∙ sym (on-comb F (VecM F) (KM F) (λ f. f c) (at-index F (KM F) c) N (β c' (decLt c' N)) v)
             ∙ ap (λ f. f c) (sym (β-is c' cN' (decLt c' N))) ∙ unit-sym F c' c;
       }
@@ -63,7 +63,7 @@ module _ (F : Field) where
       indep = λ γ z i iN.
           sym (comb-single F (KM F) N i γ (λ j. unit (ring-of F) i j) iN (λ j jN ne. ap (λ x. γ j ⊗ x) (pick-no (ℕ-discrete i j) 𝟙 𝟘 (λ p. ne (sym p))) ∙ mul-zero F _)
           ∙ ap (λ x. γ i ⊗ x) (pick-yes (ℕ-discrete i i) 𝟙 𝟘 refl) ∙ F .mul-one _)
-          ∙ comb-cong-r F (KM F) N γ _ _ (λ j jN. sym (w .left i j iN jN) ∙ sum-cong (ring-of F) N _ _ (λ c _. F .mul-comm _ _) ∙ sym (comb-sum F N (v j) (w .B i)))
+          ∙ comb-cong-r F (KM F) N γ _ _ (λ j jN. sym (w .left i j iN jN) ∙ sum-same (ring-of F) N _ _ (λ c _. F .mul-comm _ _) ∙ sym (comb-sum F N (v j) (w .B i)))
           ∙ comb-comb F (KM F) N N γ v (w .B i) (λ m c. sum (ring-of F) m (λ j. γ j ⊗ v j c)) (λ c. refl) (λ m c. refl)
           ∙ comb-vanish F (KM F) N _ (w .B i) (λ c cN. ap (λ x. x ⊗ w .B i c)
           (sym (comb-sum F N γ (λ j. v j c)) ∙ sym (on-comb F (VecM F) (KM F) (λ f. f c) (at-index F (KM F) c) N γ v) ∙ ap (λ f. f c) z) ∙ zero-mul F _);
@@ -74,7 +74,7 @@ module _ (F : Field) where
       where
         entry : (c : ℕ) → c < N → (c' : ℕ) → Dec (c' < N) → unit (ring-of F) c c' ≡ comb F (VecM F) N (λ j. w .B j c) v c'
         entry c cN c' (yes q) =
-            unit-sym F c c' ∙ sym (w .right c' c q cN) ∙ sum-cong (ring-of F) N _ _ (λ j _. F .mul-comm _ _)
+            unit-sym F c c' ∙ sym (w .right c' c q cN) ∙ sum-same (ring-of F) N _ _ (λ j _. F .mul-comm _ _)
             ∙ sym (comb-sum F N (λ j. w .B j c) (λ j. v j c')) ∙ sym (on-comb F (VecM F) (KM F) (λ f. f c') (at-index F (KM F) c') N (λ j. w .B j c) v)
         entry c cN c' (no q) =
             unit-out c cN c' (omega arith)

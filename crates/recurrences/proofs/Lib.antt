@@ -39,3 +39,4 @@ pub mod RunTheorems
 pub mod ContinuationTheorem
 pub mod MidstepFacts
 pub mod MidstepTheorems
+pub mod Recorded

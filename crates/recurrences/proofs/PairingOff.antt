@@ -20,7 +20,7 @@ use Rattle.recurrences.proofs.Spans.{Made, made-more}
 use Rattle.recurrences.proofs.Changes.{Gens, Auxs, All}
 use Rattle.recurrences.proofs.Bases.{Basis, basis-same, coordinates}
 use Rattle.recurrences.proofs.Invariant.{Holds, Inside, Annihilates}
-use Rattle.recurrences.proofs.FieldSums.{sum-cong}
+use Rattle.recurrences.proofs.Summing.{sum-same}
 use Rattle.recurrences.proofs.UnitVectors.{comb-unit}
 
 module _ (F : Field) where
@@ -99,7 +99,7 @@ module _ (F : Field) where
       left : Undoes (ring-of F) C B P
       unfolding sum P B
       left i k iN kN =
-          sum-cong (ring-of F) C _ _ (λ j _. F .mul-comm _ _)
+          sum-same (ring-of F) C _ _ (λ j _. F .mul-comm _ _)
           ∙ basis-same F C (λ k. h k 0) (g .basis) (λ i. sum (ring-of F) C (λ j. P j k ⊗ B i j)) (λ i. unit (ring-of F) i k)
           (sym (comb-comb F (VecM F) C C (λ j. P j k) (λ j i. B i j) (λ k. h k 0) (λ m i. sum (ring-of F) m (λ j. P j k ⊗ B i j)) (λ i. refl) (λ m i. refl))
           ∙ comb-cong-r F (VecM F) C (λ j. P j k) _ _ (λ j jN. sym (back-is j jN (decLt j C)))

@@ -12,7 +12,8 @@ use Rattle.recurrences.proofs.FieldLaws.{ring-of, Field, zero-mul, mul-zero, a
 use Rattle.recurrences.proofs.Choosing.{pick-yes, pick-no, put-here, put-away}
 use Rattle.recurrences.proofs.Transpositions.{flip, flip-right}
 use Rattle.recurrences.proofs.Totals.{total-cong, total-flip}
-use Rattle.recurrences.proofs.FieldSums.{sum-cong, sum-add, sum-mul, sum-nonzero, sum-flip}
+use Rattle.recurrences.proofs.Summing.{sum-same}
+use Rattle.recurrences.proofs.FieldSums.{sum-add, sum-mul, sum-nonzero, sum-flip}
 use Rattle.recurrences.proofs.Pairings.{pairing-more, pairing-flip, pairing-trans}
 
 module _ (F : Field) where
@@ -25,7 +26,7 @@ module _ (F : Field) where
       → Undoes (ring-of F) n (λ i m. B i m ⊕ (⊖ (B i n ⊗ inv (B n n)) ⊗ B n m)) P
   unfolding sum
   minor n B P nz inverse i k hi hk =
-      sum-cong (ring-of F) n _ _ (λ m _. add-mul F _ _ _ ∙ ap (λ x. B i m ⊗ P m k ⊕ x) (F .mul-assoc _ _ _))
+      sum-same (ring-of F) n _ _ (λ m _. add-mul F _ _ _ ∙ ap (λ x. B i m ⊗ P m k ⊕ x) (F .mul-assoc _ _ _))
       ∙ sum-add F n (λ m. B i m ⊗ P m k) (λ m. ⊖ c ⊗ (B n m ⊗ P m k))
       ∙ ap₂ _⊕_ refl (sum-mul F n (⊖ c) (λ m. B n m ⊗ P m k) ∙ ap (λ x. ⊖ c ⊗ x) last ∙ neg-mul F _ _ ∙ ap ⊖ (mul-neg F _ _) ∙ neg-neg F _
       ∙ sym (F .mul-assoc _ _ _) ∙ ap (λ x. x ⊗ P n k) (div-mul F (B i n) (B n n) nz))

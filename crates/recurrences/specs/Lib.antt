@@ -19,3 +19,5 @@ pub mod Phases
 pub mod Continuation
 pub mod Theorems
 pub mod Midsteps
+pub mod Standing
+pub mod WorkedRecordings

@@ -4,8 +4,8 @@ pub mod fits;
 pub mod limits;
 pub mod phase;
 pub mod refusal;
-pub mod worked;
 pub mod theorems;
+pub mod worked;
 
 pub use limits::GREATEST_BOUND;
 pub use limits::GREATEST_SIZE;
