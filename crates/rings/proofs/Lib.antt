@@ -3,6 +3,7 @@ pub mod BinaryLaws
 pub mod ByteLaws
 pub mod ByteProduct
 pub mod CycleLaws
+pub mod Decoding
 pub mod InverseTable
 pub mod ModularLaws
 pub mod PassedLaws

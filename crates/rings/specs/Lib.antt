@@ -1,4 +1,5 @@
 pub mod AllBelow
+pub mod Arithmetic
 pub mod Binary
 pub mod Bytes
 pub mod Meaning
@@ -8,3 +9,4 @@ pub mod PowerTheorems
 pub mod Powers
 pub mod PowersCheck
 pub mod PowersOfThree
+pub mod Tables

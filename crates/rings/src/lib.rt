@@ -9,6 +9,7 @@ pub mod power_theorems;
 mod powers;
 mod powers_of_three;
 pub mod ring;
+pub mod tie;
 pub mod words;
 
 pub use binary::Binary;
@@ -26,5 +27,6 @@ pub use power_theorems::powers_make_a_field;
 pub use power_theorems::powers_of_three_make_the_byte_field;
 pub use ring::Ring;
 pub use ring::is_code;
+pub use tie::Tie;
 pub use words::Words;
 pub use words::WordsRing;
