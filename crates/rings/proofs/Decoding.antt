@@ -31,6 +31,7 @@ module _ (q : ℕ) (m : Meaning) (inv : ℕ → Option ℕ) (h : 0 < q) where
       ap (λ (row : List ℕ). getD row (code q b) 0) (entry-at (λ x. map (λ y. f x y) (counting 0 q)) a []) ∙ entry-at (λ y. f (code q a) y) b 0
 
   decoded-encoded : decoded (encoded q m inv) ≡ reading q m inv
+  unfolding decoded encoded
   decoded-encoded = λ i. record {
     size = q;
     sum = λ a b. entry-in-row (m .sum) a b i;

@@ -11,4 +11,5 @@ pub mod Pigeonhole
 pub mod PlacesInList
 pub mod SameProduct
 pub mod ThreePowers
+pub mod TieType
 pub mod XorLinear

@@ -17,12 +17,13 @@ abbrev pub row-of : Option ℕ → List ℕ
 row-of None = []
 row-of (Some b) = b ∷ []
 
+-- The inverse that a row tells.
 abbrev pub first : List ℕ → Option ℕ
 first [] = None
 first (b ∷ bs) = Some b
 
 -- The table of a meaning and an inverse on q codes.
-abbrev pub encoded : ℕ → Meaning → (ℕ → Option ℕ) → Table
+unfoldable pub encoded : ℕ → Meaning → (ℕ → Option ℕ) → Table
 encoded q m inv =
     ((q ∷ []) ∷ [])
     ∷ (map (λ a. m .opposite a) (counting 0 q) ∷ [])
@@ -35,7 +36,7 @@ abbrev size-of : Table → ℕ
 size-of t = getD (getD (getD t 0 []) 0 []) 0 0
 
 -- The arithmetic that a table tells, with a number of its size or more read as 0.
-abbrev pub decoded : Table → Arithmetic
+unfoldable pub decoded : Table → Arithmetic
 decoded t = record {
   size = size-of t;
   sum = λ a b. getD (getD (getD t 2 []) (code (size-of t) a) []) (code (size-of t) b) 0;

@@ -6,6 +6,9 @@ ghost use Rattle.rings.specs.Tables.{Table, encoded, decoded};
 use crate::field::Field;
 use crate::ring::Ring;
 
+// A field with its arithmetic as data, for a struct over any field F that keeps an invariant about F's arithmetic.
+// An invariant is a fact, and a fact in a struct cannot name F's meaning. It can name the table of a tie that the struct holds: `decoded` of it is the field's arithmetic.
+// A table is ghost: a tie takes no more memory than the field.
 pub struct Tie<F: Field> {
     field: F,
     ghost table: { Table },
@@ -27,6 +30,7 @@ impl<F: Field> Tie<F> {
         Tie { field }
     }
 
+    // Runs nothing: a call brings the equation into the caller's proof.
     pub fn told(&self)
         ensures { λ _. ⌜ decoded (now (self .entry) .table) ≡ reading (F·Ring .size) (F·Ring .means (now (self .entry) .field)) (F·Field .inverse (now (self .entry) .field)) ⌝ }
     {}
