@@ -1,3 +1,4 @@
+-- What `pick` and `put` give.
 use mathlib.Core.Path.{_≡_, refl}
 use mathlib.Core.Logic.{_≢_}
 use Prim.Native.Nat.{ℕ}

@@ -1,3 +1,4 @@
+-- Linear combinations, and the span of a family of vectors.
 use mathlib.Core.Path.{_≡_, refl, sym, _∙_, ap, ap₂, subst}
 use mathlib.Core.Logic.{_≢_, _⊎_, inl, inr}
 use Prim.Native.Nat.{ℕ, zero, suc, _≤_, _<_}
@@ -5,12 +6,12 @@ use native.Mathlib.Omega.{arith}
 use native.Mathlib.Decide.{ℕ-discrete}
 use Rattle.recurrences.specs.Choice.{put}
 use Rattle.recurrences.proofs.FieldLaws.{Field, mul-zero}
-use Rattle.recurrences.proofs.Vectors.{Mod}
+use Rattle.recurrences.proofs.Vectors.{Space}
 use Rattle.recurrences.proofs.Choosing.{put-away, put-here}
 
-module _ (F : Field) (M : Mod F) where
+module _ (F : Field) (M : Space F) where
   open Field F using (K, 𝟘, 𝟙, add as _⊕_, neg as ⊖, mul as _⊗_, inv)
-  open Mod M using (V, vzero, vadd as _⊞_, smul as _⊡_, vadd-comm, vadd-assoc, vadd-zero, smul-add, add-smul, mul-smul, one-smul, zero-smul)
+  open Space M using (V, vzero, vadd as _⊞_, smul as _⊡_, vadd-comm, vadd-assoc, vadd-zero, smul-add, add-smul, mul-smul, one-smul, zero-smul)
 
   infixl 60 _⊕_
   infixl 70 _⊗_
@@ -97,75 +98,75 @@ module _ (F : Field) (M : Mod F) where
       go i l (no e) = z i l e ∙ sym (ap (λ x. x ⊡ f i) (put-away k (γ k) (λ _. 𝟘) i e) ∙ zero-smul (f i))
 
   -- what is made of the vectors of P by sums and multiples
-  pub data Lin (P : V → Type 0) : V → Type 0 where
-    lin-none : {h : V} → h ≡ vzero → Lin P h
-    lin-more : {h : V} (c : K) (x t : V) → P x → Lin P t → h ≡ (c ⊡ x) ⊞ t → Lin P h
+  pub data Span (P : V → Type 0) : V → Type 0 where
+    span-none : {h : V} → h ≡ vzero → Span P h
+    span-more : {h : V} (c : K) (x t : V) → P x → Span P t → h ≡ (c ⊡ x) ⊞ t → Span P h
 
-  pub lin-eq : (P : V → Type 0) {h g : V} → g ≡ h → Lin P h → Lin P g
-  lin-eq P e (lin-none p) = lin-none (e ∙ p)
-  lin-eq P e (lin-more c x t px l p) = lin-more c x t px l (e ∙ p)
+  pub span-eq : (P : V → Type 0) {h g : V} → g ≡ h → Span P h → Span P g
+  span-eq P e (span-none p) = span-none (e ∙ p)
+  span-eq P e (span-more c x t px l p) = span-more c x t px l (e ∙ p)
 
-  pub lin-one : (P : V → Type 0) (x : V) → P x → Lin P x
-  lin-one P x px = lin-more 𝟙 x vzero px (lin-none refl) (sym (one-smul x) ∙ sym (vadd-zero (𝟙 ⊡ x)))
+  pub span-one : (P : V → Type 0) (x : V) → P x → Span P x
+  span-one P x px = span-more 𝟙 x vzero px (span-none refl) (sym (one-smul x) ∙ sym (vadd-zero (𝟙 ⊡ x)))
 
-  pub lin-add : (P : V → Type 0) {h g : V} → Lin P h → Lin P g → Lin P (h ⊞ g)
-  lin-add P {h} {g} (lin-none p) m = lin-eq P (ap (λ x. x ⊞ g) p ∙ vzero-add g) m
-  lin-add P {h} {g} (lin-more c x t px l p) m = lin-more c x (t ⊞ g) px (lin-add P l m) (ap (λ y. y ⊞ g) p ∙ vadd-assoc _ _ _)
+  pub span-add : (P : V → Type 0) {h g : V} → Span P h → Span P g → Span P (h ⊞ g)
+  span-add P {h} {g} (span-none p) m = span-eq P (ap (λ x. x ⊞ g) p ∙ vzero-add g) m
+  span-add P {h} {g} (span-more c x t px l p) m = span-more c x (t ⊞ g) px (span-add P l m) (ap (λ y. y ⊞ g) p ∙ vadd-assoc _ _ _)
 
-  pub lin-smul : (P : V → Type 0) (k : K) {h : V} → Lin P h → Lin P (k ⊡ h)
-  lin-smul P k (lin-none p) = lin-none (ap (λ x. k ⊡ x) p ∙ smul-zero k)
-  lin-smul P k (lin-more c x t px l p) =
-      lin-more (k ⊗ c) x (k ⊡ t) px (lin-smul P k l) (ap (λ y. k ⊡ y) p ∙ smul-add k (c ⊡ x) t ∙ ap (λ y. y ⊞ (k ⊡ t)) (sym (mul-smul k c x)))
+  pub span-smul : (P : V → Type 0) (k : K) {h : V} → Span P h → Span P (k ⊡ h)
+  span-smul P k (span-none p) = span-none (ap (λ x. k ⊡ x) p ∙ smul-zero k)
+  span-smul P k (span-more c x t px l p) =
+      span-more (k ⊗ c) x (k ⊡ t) px (span-smul P k l) (ap (λ y. k ⊡ y) p ∙ smul-add k (c ⊡ x) t ∙ ap (λ y. y ⊞ (k ⊡ t)) (sym (mul-smul k c x)))
 
-  pub lin-bind : (P Q : V → Type 0) {h : V} → Lin P h → ((x : V) → P x → Lin Q x) → Lin Q h
-  lin-bind P Q (lin-none p) f = lin-none p
-  lin-bind P Q (lin-more c x t px l p) f = lin-eq Q p (lin-add Q (lin-smul Q c (f x px)) (lin-bind P Q l f))
+  pub span-bind : (P Q : V → Type 0) {h : V} → Span P h → ((x : V) → P x → Span Q x) → Span Q h
+  span-bind P Q (span-none p) f = span-none p
+  span-bind P Q (span-more c x t px l p) f = span-eq Q p (span-add Q (span-smul Q c (f x px)) (span-bind P Q l f))
 
-  pub lin-map : (P Q : V → Type 0) {h : V} → Lin P h → ((x : V) → P x → Q x) → Lin Q h
-  lin-map P Q l f = lin-bind P Q l (λ x px. lin-one Q x (f x px))
+  pub span-map : (P Q : V → Type 0) {h : V} → Span P h → ((x : V) → P x → Q x) → Span Q h
+  span-map P Q l f = span-bind P Q l (λ x px. span-one Q x (f x px))
 
   -- a part from P and a part from Q
-  pub lin-split : (P Q : V → Type 0) {h : V} → Lin (λ x. P x ⊎ Q x) h → (a : V) × (b : V) × Lin P a × Lin Q b × (h ≡ a ⊞ b)
-  lin-split P Q (lin-none p) = (vzero, vzero, lin-none refl, lin-none refl, p ∙ sym (vadd-zero vzero))
-  lin-split P Q (lin-more c x t (inl px) l p) =
-      let (a, b, la, lb, e) = lin-split P Q l in
-      ((c ⊡ x) ⊞ a, b, lin-more c x a px la refl, lb, p ∙ ap (λ y. (c ⊡ x) ⊞ y) e ∙ sym (vadd-assoc _ _ _))
-  lin-split P Q (lin-more c x t (inr qx) l p) =
-      let (a, b, la, lb, e) = lin-split P Q l in
-      (a, (c ⊡ x) ⊞ b, la, lin-more c x b qx lb refl, p ∙ ap (λ y. (c ⊡ x) ⊞ y) e ∙ vadd-left-comm _ _ _)
+  pub span-split : (P Q : V → Type 0) {h : V} → Span (λ x. P x ⊎ Q x) h → (a : V) × (b : V) × Span P a × Span Q b × (h ≡ a ⊞ b)
+  span-split P Q (span-none p) = (vzero, vzero, span-none refl, span-none refl, p ∙ sym (vadd-zero vzero))
+  span-split P Q (span-more c x t (inl px) l p) =
+      let (a, b, la, lb, e) = span-split P Q l in
+      ((c ⊡ x) ⊞ a, b, span-more c x a px la refl, lb, p ∙ ap (λ y. (c ⊡ x) ⊞ y) e ∙ sym (vadd-assoc _ _ _))
+  span-split P Q (span-more c x t (inr qx) l p) =
+      let (a, b, la, lb, e) = span-split P Q l in
+      (a, (c ⊡ x) ⊞ b, la, span-more c x b qx lb refl, p ∙ ap (λ y. (c ⊡ x) ⊞ y) e ∙ vadd-left-comm _ _ _)
 
   -- the vectors f j with j < n and Q j
   abbrev pub Among : ℕ → (ℕ → Type 0) → (ℕ → V) → V → Type 0
   Among n Q f x = (j : ℕ) × (j < n) × Q j × (x ≡ f j)
 
-  pub lin-comb : (n : ℕ) (Q : ℕ → Type 0) (f : ℕ → V) (h : V) → Lin (Among n Q f) h
+  pub span-comb : (n : ℕ) (Q : ℕ → Type 0) (f : ℕ → V) (h : V) → Span (Among n Q f) h
       → (γ : ℕ → K) × ((j : ℕ) → ¬ Q j → γ j ≡ 𝟘) × (h ≡ comb n γ f)
-  lin-comb n Q f h (lin-none p) = ((λ _. 𝟘), (λ j _. refl), p ∙ sym (comb-zero n (λ _. 𝟘) f (λ i l. refl)))
-  lin-comb n Q f h (lin-more c x t px l p) =
-      let (γ, z, e) = lin-comb n Q f t l in
+  span-comb n Q f h (span-none p) = ((λ _. 𝟘), (λ j _. refl), p ∙ sym (comb-zero n (λ _. 𝟘) f (λ i l. refl)))
+  span-comb n Q f h (span-more c x t px l p) =
+      let (γ, z, e) = span-comb n Q f t l in
       let (j, jn, qj, xe) = px in (
         (λ i. put j c (λ _. 𝟘) i ⊕ γ i),
         (λ i ni. ap₂ _⊕_ (put-away j c (λ _. 𝟘) i (λ ij. ni (subst Q (sym ij) qj))) (z i ni) ∙ F .add-zero 𝟘),
         p ∙ ap₂ _⊞_ (ap (λ y. c ⊡ y) xe ∙ sym (comb-delta n j c f jn)) e ∙ sym (comb-add n (put j c (λ _. 𝟘)) γ f),
       )
 
-  comb-lin-go : (n : ℕ) (Q : ℕ → Type 0) (f : ℕ → V) (γ : ℕ → K) → ((j : ℕ) → j < n → (γ j ≡ 𝟘) ⊎ Q j)
-      → (m : ℕ) → m ≤ n → Lin (Among n Q f) (comb m γ f)
+  comb-span-go : (n : ℕ) (Q : ℕ → Type 0) (f : ℕ → V) (γ : ℕ → K) → ((j : ℕ) → j < n → (γ j ≡ 𝟘) ⊎ Q j)
+      → (m : ℕ) → m ≤ n → Span (Among n Q f) (comb m γ f)
   unfolding comb
-  comb-lin-go n Q f γ h zero l = lin-none refl
-  comb-lin-go n Q f γ h (suc m) l = one (comb-lin-go n Q f γ h m (omega arith)) (h m (omega arith))
+  comb-span-go n Q f γ h zero l = span-none refl
+  comb-span-go n Q f γ h (suc m) l = one (comb-span-go n Q f γ h m (omega arith)) (h m (omega arith))
     where
-      one : Lin (Among n Q f) (comb m γ f) → (γ m ≡ 𝟘) ⊎ Q m → Lin (Among n Q f) (comb m γ f ⊞ (γ m ⊡ f m))
-      one r (inl e) = lin-eq (Among n Q f) (ap (λ x. comb m γ f ⊞ x) (ap (λ x. x ⊡ f m) e ∙ zero-smul (f m)) ∙ vadd-zero _) r
-      one r (inr q) = lin-more (γ m) (f m) (comb m γ f) (m, omega arith, q, refl) r (vadd-comm _ _)
+      one : Span (Among n Q f) (comb m γ f) → (γ m ≡ 𝟘) ⊎ Q m → Span (Among n Q f) (comb m γ f ⊞ (γ m ⊡ f m))
+      one r (inl e) = span-eq (Among n Q f) (ap (λ x. comb m γ f ⊞ x) (ap (λ x. x ⊡ f m) e ∙ zero-smul (f m)) ∙ vadd-zero _) r
+      one r (inr q) = span-more (γ m) (f m) (comb m γ f) (m, omega arith, q, refl) r (vadd-comm _ _)
 
-  pub comb-lin : (n : ℕ) (Q : ℕ → Type 0) (f : ℕ → V) (γ : ℕ → K) → ((j : ℕ) → j < n → (γ j ≡ 𝟘) ⊎ Q j) → Lin (Among n Q f) (comb n γ f)
-  comb-lin n Q f γ h = comb-lin-go n Q f γ h n (omega arith)
+  pub comb-span : (n : ℕ) (Q : ℕ → Type 0) (f : ℕ → V) (γ : ℕ → K) → ((j : ℕ) → j < n → (γ j ≡ 𝟘) ⊎ Q j) → Span (Among n Q f) (comb n γ f)
+  comb-span n Q f γ h = comb-span-go n Q f γ h n (omega arith)
 
   -- c taken of b away from a, where b is not wanted if c is zero
-  pub lin-less : (P : V → Type 0) {a b : V} (c : K) → Lin P a → (c ≡ 𝟘) ⊎ Lin P b → Lin P (a ⊞ (c ⊡ b))
-  lin-less P {a} {b} c la (inl e) = lin-eq P (ap (λ x. a ⊞ x) (ap (λ x. x ⊡ b) e ∙ zero-smul b) ∙ vadd-zero a) la
-  lin-less P {a} {b} c la (inr lb) = lin-add P la (lin-smul P c lb)
+  pub span-less : (P : V → Type 0) {a b : V} (c : K) → Span P a → (c ≡ 𝟘) ⊎ Span P b → Span P (a ⊞ (c ⊡ b))
+  span-less P {a} {b} c la (inl e) = span-eq P (ap (λ x. a ⊞ x) (ap (λ x. x ⊡ b) e ∙ zero-smul b) ∙ vadd-zero a) la
+  span-less P {a} {b} c la (inr lb) = span-add P la (span-smul P c lb)
 
   pub less-back : (a b : V) (c : K) → a ≡ (a ⊞ (⊖ c ⊡ b)) ⊞ (c ⊡ b)
   less-back a b c =

@@ -1,3 +1,4 @@
+-- The discrepancy with its sum not cut at a degree: it is linear, follows the shift, and is the discrepancy where a column ends at its degree.
 use mathlib.Core.Path.{_≡_, refl, sym, _∙_, ap, ap₂, fun-ext}
 use Prim.Native.Nat.{ℕ, zero, suc, _-_, min}
 use native.Mathlib.Omega.{arith}
@@ -10,7 +11,7 @@ use Rattle.recurrences.proofs.Summing.{sum-same}
 use Rattle.recurrences.proofs.FieldSums.{sum-add, sum-mul, sum-zero, sum-head, sum-cut}
 use Rattle.recurrences.proofs.LinearMaps.{Linear}
 use Rattle.recurrences.proofs.FieldLaws.{ring-of, Field, mul-zero, mul-left-comm}
-use Rattle.recurrences.proofs.Vectors.{KM, ColM}
+use Rattle.recurrences.proofs.Vectors.{ScalarSpace, ColumnSpace}
 
 -- entry r of the discrepancy at place l with the sum not cut at a degree: coefficient l of the product of the list M with the column f
 unfoldable pub convolution : (O : Operations) → ℕ → Matrices O → ℕ → ℕ → Column O → O .K
@@ -21,14 +22,14 @@ module _ (F : Field) where
 
   infixl 60 _⊕_
   infixl 70 _⊗_
-  pub convolution-linear : (C : ℕ) (M : Matrices (ring-of F)) (l r : ℕ) → Linear F (ColM F) (KM F) (convolution (ring-of F) C M l r)
+  pub convolution-linear : (C : ℕ) (M : Matrices (ring-of F)) (l r : ℕ) → Linear F (ColumnSpace F) (ScalarSpace F) (convolution (ring-of F) C M l r)
   unfolding convolution
   convolution-linear C M l r = record {
     on-add = λ f g. sum-same (ring-of F) (suc l) _ _ (λ k _. sum-same (ring-of F) C _ _ (λ c _. F .mul-add _ _ _) ∙ sum-add F C _ _) ∙ sum-add F (suc l) _ _;
     on-smul = λ a f. sum-same (ring-of F) (suc l) _ _ (λ k _. sum-same (ring-of F) C _ _ (λ c _. mul-left-comm F _ _ _) ∙ sum-mul F C a _) ∙ sum-mul F (suc l) a _;
   }
 
-  pub shift-linear : Linear F (ColM F) (ColM F) (shift (ring-of F))
+  pub shift-linear : Linear F (ColumnSpace F) (ColumnSpace F) (shift (ring-of F))
   unfolding shift
   shift-linear = record {
     on-add = λ f g. fun-ext (elim [ zero ↦ fun-ext (λ c. sym (F .add-zero 𝟘)) | suc k ↦ refl ]);

@@ -1,3 +1,4 @@
+-- Fields with their laws, and what follows from them in general.
 use mathlib.Core.Path.{_≡_, sym, _∙_, ap, ap₂}
 use mathlib.Core.Logic.{_≢_}
 use Rattle.std.specs.declared.option.Option.the-variants.{Some}

@@ -9,7 +9,7 @@ use Rattle.recurrences.specs.Sums.{sum}
 use Rattle.recurrences.proofs.FieldLaws.{ring-of, Field, mul-zero}
 use Rattle.recurrences.proofs.Choosing.{put-here, put-away}
 use Rattle.recurrences.proofs.Transpositions.{flip, flip-left, flip-right, flip-away}
-use Rattle.recurrences.proofs.Vectors.{KM}
+use Rattle.recurrences.proofs.Vectors.{ScalarSpace}
 use Rattle.recurrences.proofs.Combinations.{vadd-four}
 use Rattle.recurrences.proofs.Summing.{sum-same}
 
@@ -21,7 +21,7 @@ module _ (F : Field) where
   pub sum-add : (n : ℕ) (f g : ℕ → K) → sum (ring-of F) n (λ i. f i ⊕ g i) ≡ sum (ring-of F) n f ⊕ sum (ring-of F) n g
   unfolding sum
   sum-add zero f g = sym (F .add-zero 𝟘)
-  sum-add (suc n) f g = ap (λ x. x ⊕ (f n ⊕ g n)) (sum-add n f g) ∙ vadd-four F (KM F) _ _ _ _
+  sum-add (suc n) f g = ap (λ x. x ⊕ (f n ⊕ g n)) (sum-add n f g) ∙ vadd-four F (ScalarSpace F) _ _ _ _
 
   pub sum-mul : (n : ℕ) (k : K) (f : ℕ → K) → sum (ring-of F) n (λ i. k ⊗ f i) ≡ k ⊗ sum (ring-of F) n f
   unfolding sum

@@ -14,8 +14,8 @@ use Rattle.recurrences.specs.Discrepancy.{Column, Matrices}
 use Rattle.recurrences.specs.Choice.{pick}
 use Rattle.recurrences.specs.Columns.{Columns}
 use Rattle.recurrences.proofs.Invariant.{midstep, before-row as row-before, Holds, Inside}
-use Rattle.recurrences.proofs.Vectors.{ColM, KM}
-use Rattle.recurrences.proofs.LinearMaps.{at-place, on-lin}
+use Rattle.recurrences.proofs.Vectors.{ColumnSpace, ScalarSpace}
+use Rattle.recurrences.proofs.LinearMaps.{at-place, on-span}
 use Rattle.recurrences.proofs.BestCandidate.{Best, best-is}
 use Rattle.recurrences.proofs.Convolutions.{convolution}
 use Rattle.recurrences.proofs.Changes.{All}
@@ -26,7 +26,7 @@ use Rattle.recurrences.proofs.RowByRow.{agrees}
 module _ (F : Field) (R C : ℕ) (M : Matrices (ring-of F)) (n : ℕ) (s : Columns (ring-of F)) (H : Holds F R C M n s) where
   mid-inside : (i : ℕ) → i ≤ R → (e : ℕ) (x : Column (ring-of F)) → All F R C (midstep F R C M n s i .columns) e x → Inside F C e x
   mid-inside i h e x a k c o =
-      on-lin F (ColM F) (KM F) (λ f. f k c) (at-place F k c) (All F R C s e) (row-before F R C M n s H i h .new e x a) (λ y ay. H .inside e y ay k c o)
+      on-span F (ColumnSpace F) (ScalarSpace F) (λ f. f k c) (at-place F k c) (All F R C s e) (row-before F R C M n s H i h .new e x a) (λ y ay. H .inside e y ay k c o)
 
   pub mid-bounded : (i : ℕ) → i ≤ R → (below : F .K → Type 0) → ((x : F .K) → below x) → Bounded (ring-of F) below R C n (midstep F R C M n s i)
   mid-bounded i h below all = record {
@@ -37,16 +37,16 @@ module _ (F : Field) (R C : ℕ) (M : Matrices (ring-of F)) (n : ℕ) (s : Colum
     gen-width = λ j k c jC o. mid-inside i h (midstep F R C M n s i .columns .gen-degree j) (midstep F R C M n s i .columns .gen j) (inl (j, jC, omega arith, refl)) k c (inr o);
     aux-width = λ j k c jR o. mid-inside i h (midstep F R C M n s i .columns .aux-degree j) (midstep F R C M n s i .columns .aux j) (inr (j, jR, omega arith, refl)) k c (inr o);
     gen-degrees = λ j jC. gen-degree-of j jC (midstep F R C M n s i .opened j) refl;
-    aux-degrees = λ j jR. aux-degree-of j (row-before F R C M n s H i h .aux-diag j jR);
+    aux-degrees = λ j jR. aux-degree-of j (row-before F R C M n s H i h .aux-diagonal j jR);
   }
     where
       gen-degree-of : (j : ℕ) → j < C → (b : Bool) → midstep F R C M n s i .opened j ≡ b → midstep F R C M n s i .columns .gen-degree j ≤ suc n
-      gen-degree-of j jC true v = let a = row-before F R C M n s H i h .opened-deg j jC v in omega arith
-      gen-degree-of j jC false v = let a = row-before F R C M n s H i h .closed-deg j jC v in omega arith
+      gen-degree-of j jC true v = let a = row-before F R C M n s H i h .opened-degree j jC v in omega arith
+      gen-degree-of j jC false v = let a = row-before F R C M n s H i h .closed-degree j jC v in omega arith
 
       aux-degree-of : (j : ℕ)
           → ((convolution (ring-of F) C M n j (midstep F R C M n s i .columns .aux j) ≢ F .𝟘) × (midstep F R C M n s i .columns .aux-degree j ≤ n))
-          ⊎ ((midstep F R C M n s i .columns .aux j ≡ ColM F .vzero) × (midstep F R C M n s i .columns .aux-degree j ≡ suc n))
+          ⊎ ((midstep F R C M n s i .columns .aux j ≡ ColumnSpace F .vzero) × (midstep F R C M n s i .columns .aux-degree j ≡ suc n))
           → midstep F R C M n s i .columns .aux-degree j ≤ suc n
       aux-degree-of j (inl (_, a)) = omega arith
       aux-degree-of j (inr (_, a)) = omega arith
@@ -70,10 +70,10 @@ module _ (F : Field) (R C : ℕ) (M : Matrices (ring-of F)) (n : ℕ) (s : Colum
       aux-same = agrees F R C M n s (λ e x a k c h cC. H .inside e x a k c (inl h)) t i iR W .1
 
       auxed : (l : ℕ) → l < C → t .opened l ≡ true → t .columns .aux-degree i ≤ t .columns .gen-degree l
-          → ((convolution (ring-of F) C M n i (t .columns .aux i) ≢ F .𝟘) × (t .columns .aux-degree i ≤ n)) ⊎ ((t .columns .aux i ≡ ColM F .vzero) × (t .columns .aux-degree i ≡ suc n))
+          → ((convolution (ring-of F) C M n i (t .columns .aux i) ≢ F .𝟘) × (t .columns .aux-degree i ≤ n)) ⊎ ((t .columns .aux i ≡ ColumnSpace F .vzero) × (t .columns .aux-degree i ≡ suc n))
           → aux-entry (ring-of F) C entry t i ≢ F .𝟘
       auxed l lC v under (inl (nz, _)) z = nz (sym aux-same ∙ z)
-      auxed l lC v under (inr (_, e)) z = let a = W .opened-deg l lC v in absurd (omega arith)
+      auxed l lC v under (inr (_, e)) z = let a = W .opened-degree l lC v in absurd (omega arith)
 
       go : (r : Option ℕ) → Best (Candidate (ring-of F) C entry t i) (t .columns .gen-degree) C r
           → divisor (ring-of F) C entry t i (against (t .columns .aux-degree i) (t .columns .gen-degree) r) ≢ F .𝟘
@@ -81,5 +81,5 @@ module _ (F : Field) (R C : ℕ) (M : Matrices (ring-of F)) (n : ℕ) (s : Colum
       go (Some l) (lC, (lv, nz), least, first) = by (decLe (t .columns .aux-degree i) (t .columns .gen-degree l))
         where
           by : (d : Dec (t .columns .aux-degree i ≤ t .columns .gen-degree l)) → divisor (ring-of F) C entry t i (pick d None (Some l)) ≢ F .𝟘
-          by (yes under) = auxed l lC lv under (W .aux-diag i iR)
+          by (yes under) = auxed l lC lv under (W .aux-diagonal i iR)
           by (no _) = nz

@@ -95,7 +95,7 @@ divisors-are-not-zero q m inv L V R C M n i j iR jC = divides q m inv L V R C M 
 pub generator-degrees-are-at-most-count : Generator-degrees-are-at-most-count
 generator-degrees-are-at-most-count q m inv L V R C M n j jC =
     subst (λ (s : Columns (numbers q m)). s .gen-degree j ≤ n) (run-is q m inv L V R C M n)
-    (run-holds (field q m inv L V R C) R C (as-codes q m inv L V R C M) n .gen-deg j jC)
+    (run-holds (field q m inv L V R C) R C (as-codes q m inv L V R C M) n .gen-degrees j jC)
 
 pub run-rests-on-matrices-taken : Run-rests-on-matrices-taken
 run-rests-on-matrices-taken q m inv R C M N n same = run-same (field-numbers q m inv) R C M N n same

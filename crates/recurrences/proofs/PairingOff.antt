@@ -11,13 +11,13 @@ use Rattle.recurrences.specs.Pairing.{Pairing}
 use Rattle.recurrences.specs.Sums.{sum}
 use Rattle.recurrences.specs.Degrees.{total}
 use Rattle.recurrences.proofs.FieldLaws.{ring-of, Field}
-use Rattle.recurrences.proofs.Vectors.{Mod, ColM, VecM}
-use Rattle.recurrences.proofs.Combinations.{comb, comb-comb, comb-cong-r, lin-split, lin-comb}
-use Rattle.recurrences.proofs.LinearMaps.{on-comb, on-lin, at-index}
+use Rattle.recurrences.proofs.Vectors.{Space, ColumnSpace, VectorSpace}
+use Rattle.recurrences.proofs.Combinations.{comb, comb-comb, comb-cong-r, span-split, span-comb}
+use Rattle.recurrences.proofs.LinearMaps.{on-comb, on-span, at-index}
 use Rattle.recurrences.proofs.Totals.{total-le}
 use Rattle.recurrences.proofs.Transversals.{transversal}
-use Rattle.recurrences.proofs.Spans.{Made, made-more}
-use Rattle.recurrences.proofs.Changes.{Gens, Auxs, All}
+use Rattle.recurrences.proofs.Spans.{ShiftSpan, made-more}
+use Rattle.recurrences.proofs.Changes.{Generators, Auxiliaries, All}
 use Rattle.recurrences.proofs.Bases.{Basis, basis-same, coordinates}
 use Rattle.recurrences.proofs.Invariant.{Holds, Inside, Annihilates}
 use Rattle.recurrences.proofs.Summing.{sum-same}
@@ -25,7 +25,7 @@ use Rattle.recurrences.proofs.UnitVectors.{comb-unit}
 
 module _ (F : Field) where
   open Field F using (K, 𝟘, 𝟙, add as _⊕_, neg as ⊖, mul as _⊗_, inv)
-  open Mod (VecM F) using (vzero as 𝟎, vadd as _⊞_, smul as _⊡_, vadd-zero)
+  open Space (VectorSpace F) using (vzero as 𝟎, vadd as _⊞_, smul as _⊡_, vadd-zero)
 
   infixl 60 _⊕_
   infixl 70 _⊗_
@@ -48,28 +48,28 @@ module _ (F : Field) where
     module _ (n : ℕ) (s : Columns (ring-of F)) (H : Holds F R C M n s) (h : ℕ → Column (ring-of F)) (e : ℕ → ℕ) (g : FieldGenerator n h e) where
       -- the constant coefficient of a column of degree d that fits, by those of the generator columns of degree at most d
       first-coordinates : (d : ℕ) (f : Column (ring-of F)) → Inside F C d f → Annihilates F R C M n d f
-          → (γ : ℕ → K) × ((j : ℕ) → j < C → ¬ (s .gen-degree j ≤ d) → γ j ≡ 𝟘) × (f 0 ≡ comb F (VecM F) C γ (λ j. s .gen j 0))
+          → (γ : ℕ → K) × ((j : ℕ) → j < C → ¬ (s .gen-degree j ≤ d) → γ j ≡ 𝟘) × (f 0 ≡ comb F (VectorSpace F) C γ (λ j. s .gen j 0))
       unfolding shift
       first-coordinates d f i ft = go (decLe d n)
         where
-          go : Dec (d ≤ n) → (γ : ℕ → K) × ((j : ℕ) → j < C → ¬ (s .gen-degree j ≤ d) → γ j ≡ 𝟘) × (f 0 ≡ comb F (VecM F) C γ (λ j. s .gen j 0))
+          go : Dec (d ≤ n) → (γ : ℕ → K) × ((j : ℕ) → j < C → ¬ (s .gen-degree j ≤ d) → γ j ≡ 𝟘) × (f 0 ≡ comb F (VectorSpace F) C γ (λ j. s .gen j 0))
           go (yes q) = take (H .spanning d q f i ft)
             where
-              take : Made F (All F R C s) (suc d) f → (γ : ℕ → K) × ((j : ℕ) → j < C → ¬ (s .gen-degree j ≤ d) → γ j ≡ 𝟘) × (f 0 ≡ comb F (VecM F) C γ (λ j. s .gen j 0))
+              take : ShiftSpan F (All F R C s) (suc d) f → (γ : ℕ → K) × ((j : ℕ) → j < C → ¬ (s .gen-degree j ≤ d) → γ j ≡ 𝟘) × (f 0 ≡ comb F (VectorSpace F) C γ (λ j. s .gen j 0))
               take (made-more a t la mt p) =
-                  let (b, c, lb, lc, q) = lin-split F (ColM F) (Gens F R C s d) (Auxs F R C s d) la in
-                  let (γ, out, r) = lin-comb F (ColM F) C (λ j. s .gen-degree j ≤ d) (s .gen) b lb in
-                  let c0 : c 0 ≡ 𝟎 = on-lin F (ColM F) (VecM F) (λ f. f 0) (at-index F (VecM F) 0) (Auxs F R C s d) lc (λ x (k, kN, _, xp). ap (λ f. f 0) xp ∙ H .aux-const k kN) in (
+                  let (b, c, lb, lc, q) = span-split F (ColumnSpace F) (Generators F R C s d) (Auxiliaries F R C s d) la in
+                  let (γ, out, r) = span-comb F (ColumnSpace F) C (λ j. s .gen-degree j ≤ d) (s .gen) b lb in
+                  let c0 : c 0 ≡ 𝟎 = on-span F (ColumnSpace F) (VectorSpace F) (λ f. f 0) (at-index F (VectorSpace F) 0) (Auxiliaries F R C s d) lc (λ x (k, kN, _, xp). ap (λ f. f 0) xp ∙ H .aux-constant k kN) in (
                     γ,
                     (λ j jN nj. out j nj),
                     ap (λ f. f 0) p ∙ vadd-zero (a 0) ∙ ap (λ f. f 0) q ∙ ap (λ x. b 0 ⊞ x) c0 ∙ vadd-zero (b 0)
-                        ∙ ap (λ f. f 0) r ∙ on-comb F (ColM F) (VecM F) (λ f. f 0) (at-index F (VecM F) 0) C γ (s .gen),
+                        ∙ ap (λ f. f 0) r ∙ on-comb F (ColumnSpace F) (VectorSpace F) (λ f. f 0) (at-index F (VectorSpace F) 0) C γ (s .gen),
                   )
           go (no q) =
               let (γ, p) = coordinates F C (λ j. s .gen j 0) (H .basis) (f 0) (λ c cN. i 0 c (inr cN)) in
-              (γ, (λ j jN nj. let x = H .gen-deg j jN in absurd (nj (omega arith))), p)
+              (γ, (λ j jN nj. let x = H .gen-degrees j jN in absurd (nj (omega arith))), p)
 
-      part : (k : ℕ) → k < C → (γ : ℕ → K) × ((j : ℕ) → j < C → ¬ (s .gen-degree j ≤ e k) → γ j ≡ 𝟘) × (h k 0 ≡ comb F (VecM F) C γ (λ j. s .gen j 0))
+      part : (k : ℕ) → k < C → (γ : ℕ → K) × ((j : ℕ) → j < C → ¬ (s .gen-degree j ≤ e k) → γ j ≡ 𝟘) × (h k 0 ≡ comb F (VectorSpace F) C γ (λ j. s .gen j 0))
       part k kN = first-coordinates (e k) (h k) (g .inside k kN) (g .fits k kN)
 
       P-at : (k : ℕ) → Dec (k < C) → ℕ → K
@@ -79,7 +79,7 @@ module _ (F : Field) where
       P : ℕ → ℕ → K
       P j k = P-at k (decLt k C) j
 
-      P-is : (k : ℕ) → k < C → (d : Dec (k < C)) → (((j : ℕ) → j < C → ¬ (s .gen-degree j ≤ e k) → P-at k d j ≡ 𝟘) × (h k 0 ≡ comb F (VecM F) C (P-at k d) (λ j. s .gen j 0)))
+      P-is : (k : ℕ) → k < C → (d : Dec (k < C)) → (((j : ℕ) → j < C → ¬ (s .gen-degree j ≤ e k) → P-at k d j ≡ 𝟘) × (h k 0 ≡ comb F (VectorSpace F) C (P-at k d) (λ j. s .gen j 0)))
       unfolding P-at
       P-is k kN (yes q) = (part k q .1, part k q .2)
       P-is k kN (no q) = absurd (q kN)
@@ -91,7 +91,7 @@ module _ (F : Field) where
       B : ℕ → ℕ → K
       B i j = back j (decLt j C) i
 
-      back-is : (j : ℕ) → j < C → (d : Dec (j < C)) → s .gen j 0 ≡ comb F (VecM F) C (back j d) (λ k. h k 0)
+      back-is : (j : ℕ) → j < C → (d : Dec (j < C)) → s .gen j 0 ≡ comb F (VectorSpace F) C (back j d) (λ k. h k 0)
       unfolding back
       back-is j jN (yes q) = coordinates F C (λ k. h k 0) (g .basis) (s .gen j 0) (λ c cN. own-generator n s H .inside j q 0 c (inr cN)) .1
       back-is j jN (no q) = absurd (q jN)
@@ -101,8 +101,8 @@ module _ (F : Field) where
       left i k iN kN =
           sum-same (ring-of F) C _ _ (λ j _. F .mul-comm _ _)
           ∙ basis-same F C (λ k. h k 0) (g .basis) (λ i. sum (ring-of F) C (λ j. P j k ⊗ B i j)) (λ i. unit (ring-of F) i k)
-          (sym (comb-comb F (VecM F) C C (λ j. P j k) (λ j i. B i j) (λ k. h k 0) (λ m i. sum (ring-of F) m (λ j. P j k ⊗ B i j)) (λ i. refl) (λ m i. refl))
-          ∙ comb-cong-r F (VecM F) C (λ j. P j k) _ _ (λ j jN. sym (back-is j jN (decLt j C)))
+          (sym (comb-comb F (VectorSpace F) C C (λ j. P j k) (λ j i. B i j) (λ k. h k 0) (λ m i. sum (ring-of F) m (λ j. P j k ⊗ B i j)) (λ i. refl) (λ m i. refl))
+          ∙ comb-cong-r F (VectorSpace F) C (λ j. P j k) _ _ (λ j jN. sym (back-is j jN (decLt j C)))
           ∙ sym (P-is k kN (decLt k C) .1)
           ∙ sym (comb-unit F C k (λ k. h k 0) kN)) i iN
 

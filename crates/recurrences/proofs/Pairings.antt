@@ -1,3 +1,4 @@
+-- Pairings composed, of an exchange, and with one more pair.
 use mathlib.Core.Path.{_≡_, refl, sym, _∙_, ap}
 use Prim.Native.Nat.{ℕ, suc, _<_}
 use native.Mathlib.Omega.{arith}

@@ -1,6 +1,8 @@
 -- The worked recordings, by computation from the definitions.
 use mathlib.Core.Path.{refl}
 use native.Mathlib.Decide.{ℕ-discrete, decLe, decLt}
+use Rattle.rings.specs.Bytes.{polynomial-product, byte-product, reduced as remainder}
+use Rattle.rings.specs.PowersOfThree.{powers-of-three}
 use Rattle.recurrences.specs.Sums.{sum}
 use Rattle.recurrences.specs.Choice.{pick, put}
 use Rattle.recurrences.specs.Degrees.{total}
@@ -11,9 +13,6 @@ use Rattle.recurrences.specs.Step.{reduced, by-auxiliary, moved, traded, copie
 use Rattle.recurrences.specs.Run.{start, run}
 use Rattle.recurrences.specs.Standing.{listed, taken}
 use Rattle.recurrences.specs.WorkedRecordings.{Worked-recordings}
-use Rattle.rings.specs.Bytes.{polynomial-product, byte-product}
-use Rattle.rings.specs.Bytes.{reduced as remainder}
-use Rattle.rings.specs.PowersOfThree.{powers-of-three}
 use Rattle.recurrences.specs.Fits.{first, first-failure}
 
 pub worked-recordings : Worked-recordings

@@ -18,11 +18,11 @@ use Rattle.recurrences.specs.Degrees.{least}
 use Rattle.recurrences.specs.Generators.{Ends}
 use Rattle.recurrences.proofs.FieldLaws.{ring-of, Field, neg-mul, zero-mul, neg-zero, field-of}
 use Rattle.recurrences.proofs.Choosing.{pick-no, put-here, put-away}
-use Rattle.recurrences.proofs.Vectors.{KM, ColM}
+use Rattle.recurrences.proofs.Vectors.{ScalarSpace, ColumnSpace}
 use Rattle.recurrences.proofs.Changes.{less, by-aux, by-gen, All}
 use Rattle.recurrences.proofs.RowInvariant.{Row, aux-part, gen-part, row-aux, row-trade, row-close}
 use Rattle.recurrences.proofs.Convolutions.{convolution, discrepancy-is}
-use Rattle.recurrences.proofs.LinearMaps.{at-place, on-lin}
+use Rattle.recurrences.proofs.LinearMaps.{at-place, on-span}
 use Rattle.recurrences.proofs.BestCandidate.{best-is, Best}
 
 abbrev midstep-of : {O : Operations} → Columns O → (ℕ → Bool) → Midstep O
@@ -81,7 +81,7 @@ module _ (F : Field) (R C : ℕ) (M : Matrices (ring-of F)) (n : ℕ) (start : C
   RowOf t i = Row F R C M n start (t .columns) (t .opened) i
 
   pub row-ends : (t : Midstep (ring-of F)) (i : ℕ) → RowOf t i → (e : ℕ) (x : Column (ring-of F)) → All F R C (t .columns) e x → Ends (ring-of F) C e x
-  row-ends t i W e x a k c h cC = on-lin F (ColM F) (KM F) (λ f. f k c) (at-place F k c) (All F R C start e) (W .new e x a) (λ y ay. ends e y ay k c h cC)
+  row-ends t i W e x a k c h cC = on-span F (ColumnSpace F) (ScalarSpace F) (λ f. f k c) (at-place F k c) (All F R C start e) (W .new e x a) (λ y ay. ends e y ay k c h cC)
 
   pub agrees : (t : Midstep (ring-of F)) (i : ℕ) → i < R → RowOf t i → Agrees F C entry E i t
   agrees t i iR W = (

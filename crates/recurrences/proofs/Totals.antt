@@ -1,3 +1,4 @@
+-- Totals, least and greatest of degrees.
 use mathlib.Core.Path.{_≡_, refl, sym, _∙_, ap, ap₂}
 use Prim.Native.Nat.{ℕ, zero, suc, _+_, _*_, _≤_, _<_, max, min}
 use native.Mathlib.Omega.{arith}

@@ -1,3 +1,4 @@
+-- A matrix with a left inverse has a nonzero entry in each column, in rows that pair off with the columns.
 use mathlib.Core.Path.{_≡_, refl, sym, _∙_, ap, ap₂}
 use mathlib.Core.Logic.{_≢_}
 use Prim.Native.Nat.{ℕ, zero, suc, _+_, _<_}

@@ -1,9 +1,10 @@
+-- Vector spaces over a field: its elements, vectors of them, and columns.
 use mathlib.Core.Path.{_≡_, _∙_, fun-ext}
 use Prim.Native.Nat.{ℕ}
 use Rattle.recurrences.proofs.FieldLaws.{Field, zero-mul, add-mul}
 
 -- vectors over a field
-pub record Mod (F : Field) : Type 1 where
+pub record Space (F : Field) : Type 1 where
   pub V : Type 0
   pub vzero : V
   pub vadd : V → V → V
@@ -18,8 +19,8 @@ pub record Mod (F : Field) : Type 1 where
   pub zero-smul : (a : V) → smul (F .𝟘) a ≡ vzero
 
 -- the field over itself
-abbrev pub KM : (F : Field) → Mod F
-KM F = record {
+abbrev pub ScalarSpace : (F : Field) → Space F
+ScalarSpace F = record {
   V = F .K;
   vzero = F .𝟘;
   vadd = F .add;
@@ -35,8 +36,8 @@ KM F = record {
 }
 
 -- functions into vectors
-abbrev pub FunM : (F : Field) → Mod F → Mod F
-FunM F M = record {
+abbrev pub FunctionSpace : (F : Field) → Space F → Space F
+FunctionSpace F M = record {
   V = ℕ → M .V;
   vzero = λ _. M .vzero;
   vadd = λ f g i. M .vadd (f i) (g i);
@@ -51,8 +52,8 @@ FunM F M = record {
   zero-smul = λ a. fun-ext (λ i. M .zero-smul (a i));
 }
 
-abbrev pub VecM : (F : Field) → Mod F
-VecM F = FunM F (KM F)
+abbrev pub VectorSpace : (F : Field) → Space F
+VectorSpace F = FunctionSpace F (ScalarSpace F)
 
-abbrev pub ColM : (F : Field) → Mod F
-ColM F = FunM F (VecM F)
+abbrev pub ColumnSpace : (F : Field) → Space F
+ColumnSpace F = FunctionSpace F (VectorSpace F)
