@@ -46,9 +46,6 @@ module _ (F : Field) where
   pub add-left-comm : (a b c : K) → a ⊕ (b ⊕ c) ≡ b ⊕ (a ⊕ c)
   add-left-comm a b c = sym (add-assoc a b c) ∙ ap (λ x. x ⊕ c) (add-comm a b) ∙ add-assoc b a c
 
-  pub add-neg-left : (a b : K) → a ⊕ (⊖ a ⊕ b) ≡ b
-  add-neg-left a b = sym (add-assoc a (⊖ a) b) ∙ ap (λ x. x ⊕ b) (add-neg a) ∙ zero-add b
-
   pub neg-add-left : (a b : K) → ⊖ a ⊕ (a ⊕ b) ≡ b
   neg-add-left a b = sym (add-assoc (⊖ a) a b) ∙ ap (λ x. x ⊕ b) (neg-add a) ∙ zero-add b
 
@@ -63,10 +60,6 @@ module _ (F : Field) where
 
   pub neg-neg : (a : K) → ⊖ (⊖ a) ≡ a
   neg-neg a = sym (neg-unique (⊖ a) a (neg-add a))
-
-  pub neg-sum : (a b : K) → ⊖ (a ⊕ b) ≡ ⊖ a ⊕ ⊖ b
-  neg-sum a b = sym (neg-unique (a ⊕ b) (⊖ a ⊕ ⊖ b)
-      (add-assoc a b (⊖ a ⊕ ⊖ b) ∙ ap (λ x. a ⊕ x) (add-left-comm b (⊖ a) (⊖ b) ∙ ap (λ x. ⊖ a ⊕ x) (add-neg b) ∙ add-zero (⊖ a)) ∙ add-neg a))
 
   pub one-mul : (a : K) → 𝟙 ⊗ a ≡ a
   one-mul a = mul-comm 𝟙 a ∙ mul-one a
