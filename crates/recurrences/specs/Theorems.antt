@@ -7,7 +7,6 @@ use Rattle.rings.specs.Meaning.{Meaning, Laws, Inverse}
 use Rattle.recurrences.specs.declared.phase.Phase.the-variants.{Running, Settled}
 use Rattle.recurrences.specs.Operations.{numbers}
 use Rattle.recurrences.specs.Fields.{field-numbers}
-use Rattle.recurrences.specs.Discrepancy.{Matrices, Column}
 use Rattle.recurrences.specs.Columns.{Columns}
 use Rattle.recurrences.specs.Degrees.{total, greatest}
 use Rattle.recurrences.specs.Generators.{Generates}
