@@ -19,6 +19,7 @@ pub mod Homomorphisms
 pub mod Invariant
 pub mod Inverses
 pub mod LinearMaps
+pub mod Listing
 pub mod MidstepFacts
 pub mod MidstepTheorems
 pub mod OnNumbers

@@ -1,4 +1,4 @@
-mod codes;
+pub mod codes;
 mod discrepancy;
 pub mod fits;
 pub mod limits;
@@ -7,7 +7,9 @@ pub mod refusal;
 pub mod theorems;
 pub mod worked;
 
+pub use codes::are_codes;
 pub use limits::GREATEST_BOUND;
+pub use limits::GREATEST_CONTINUATION;
 pub use limits::GREATEST_SIZE;
 pub use phase::Phase;
 pub use phase::phase_of;

@@ -13,12 +13,12 @@ pub enum Phase {
 }
 
 // The phase from the total sigma and the greatest mu of the generator degrees, and the least beta of the auxiliary degrees.
-pub fn phase_of(bound: u32, sigma: u32, mu: u32, beta: u32) -> Phase
+pub fn phase_of(bound: usize, sigma: usize, mu: usize, beta: usize) -> Phase
     ensures { λ r. ⌜ r ≡ phase bound sigma mu beta ⌝ }
 {
     if sigma > bound {
         Phase::Short
-    } else if beta as u64 + sigma as u64 > bound as u64 + mu as u64 {
+    } else if beta as u128 + sigma as u128 > bound as u128 + mu as u128 {
         Phase::Settled
     } else {
         Phase::Running
