@@ -70,15 +70,16 @@ static Phase phase(const Run *run) {
     return least + total > run->bound + greatest ? SETTLED : RUNNING;
 }
 
-/* Entry i of the column's discrepancy at the last place. */
+/* Entry i of the column's discrepancy at the last place. The sum of at most 4 × 130 products of codes fits into
+   32 bits, so that one remainder at the end suffices. */
 INLINE uint32_t entry(uint32_t ring, int size, const Run *run, int i, const Column *column) {
     int last = column->degree < run->count ? column->degree : run->count;
     uint32_t total = 0;
     for (int k = 0; k <= last; k++) {
         const uint32_t *row = run->matrix[run->count - k][i], *f = column->at[k];
-        for (int e = 0; e < size; e++) total = plus_product(ring, total, row[e], f[e]);
+        for (int e = 0; e < size; e++) total = ring == 2 ? total ^ (row[e] & f[e]) : total + row[e] * f[e];
     }
-    return total;
+    return ring == 2 ? total : total % 101;
 }
 
 /* The column loses c times the other, up to the other's degree. */

@@ -4,8 +4,8 @@ set -euo pipefail
 cd "$(dirname "$0")/.."
 
 # How often a recording is put through a run in one measurement, and how many measurements are made.
-repeats=${REPEATS:-2000}
-measurements=${MEASUREMENTS:-7}
+repeats=${REPEATS:-20000}
+measurements=${MEASUREMENTS:-5}
 
 work=$(mktemp -d)
 trap 'rm -rf "$work"' EXIT
