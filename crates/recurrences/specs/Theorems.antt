@@ -41,6 +41,11 @@ abbrev pub Degrees-add-up : Type 0
 Degrees-add-up = Of-every-field (λ q m inv. (R C : ℕ) (M : List-of-matrices) (n : ℕ)
     → total C (run-of q m inv R C M n .gen-degree) + total R (run-of q m inv R C M n .aux-degree) ≡ R * suc n)
 
+-- after n matrices of R rows all degrees add up to s
+abbrev pub Degrees-add-up-to : ℕ → ℕ → ℕ → Type 0
+Degrees-add-up-to R n s = Of-every-field (λ q m inv. (C : ℕ) (M : List-of-matrices)
+    → total C (run-of q m inv R C M n .gen-degree) + total R (run-of q m inv R C M n .aux-degree) ≡ s)
+
 -- the generator columns generate the matrices taken
 abbrev pub Columns-generate : Type 0
 Columns-generate = Of-every-field (λ q m inv. (R C : ℕ) (M : List-of-matrices) (n : ℕ)

@@ -16,3 +16,4 @@ pub use phase::phase_of;
 pub use refusal::Refusal;
 pub use theorems::degrees_are_least_and_final;
 pub use theorems::steps_stay_in_bounds;
+pub use theorems::sum_of_degrees;

@@ -1,4 +1,6 @@
-ghost use Rattle.recurrences.specs.Theorems.{Degrees-add-up, Columns-generate, Degrees-are-least, Short-exactly-when-beyond, Counts-are-bounded, Settled-is-final, Continuation-is-unique};
+ghost use mathlib.Core.Path.{_≡_};
+ghost use Prim.Native.Nat.{_+_, _*_};
+ghost use Rattle.recurrences.specs.Theorems.{Degrees-add-up, Degrees-add-up-to, Columns-generate, Degrees-are-least, Short-exactly-when-beyond, Counts-are-bounded, Settled-is-final, Continuation-is-unique};
 ghost use Rattle.recurrences.specs.Midsteps.{Midsteps-are-bounded, Divisors-are-not-zero, Generator-degrees-are-at-most-count, Run-rests-on-matrices-taken};
 
 fn degrees_are_least() -> u8
@@ -31,6 +33,19 @@ pub fn degrees_are_least_and_final() -> u8
     let least = degrees_are_least();
     let last = ends_are_final();
     least | last
+}
+
+fn degrees_add_up_to(rows: u32, count: u32)
+    ensures { λ _. ⌜ Degrees-add-up-to rows count (rows * (count + 1)) ⌝ }
+{}
+
+// What all degrees of a run add up to after so many matrices of so many rows, over every field.
+pub fn sum_of_degrees(rows: u32, count: u32) -> u64
+    ensures value { λ r. ⌜ r ≡ rows * (count + 1) ⌝ }
+    ensures law { λ r. ⌜ Degrees-add-up-to rows count r ⌝ }
+{
+    degrees_add_up_to(rows, count);
+    rows as u64 * (count as u64 + 1)
 }
 
 fn midsteps_are_bounded() -> u8

@@ -43,6 +43,14 @@ pub fn shift(size: usize, degrees: &[usize; GREATEST_SIZE], columns: &mut [Colum
     }
 }
 
+// The degree of a column that is shifted.
+fn next_degree(degree: usize) -> usize
+    requires { ⌜ degree ≤ 128 ⌝ }
+    ensures { λ r. ⌜ r ≡ degree + 1 ⌝ }
+{
+    degree + 1
+}
+
 // The first degrees grow by 1.
 pub fn raise(size: usize, degrees: &mut [usize; GREATEST_SIZE])
     requires size { ⌜ size ≤ 4 ⌝ }
@@ -50,6 +58,6 @@ pub fn raise(size: usize, degrees: &mut [usize; GREATEST_SIZE])
     ensures { λ _. ⌜ ((j : ℕ) → getD (now (degrees .exit)) j 0 ≡ cond (ltb j size) (getD (now (degrees .entry)) j 0 + 1) (getD (now (degrees .entry)) j 0)) ⌝ }
 {
     for j in 0..size {
-        degrees[j] += 1;
+        degrees[j] = next_degree(degrees[j]);
     }
 }
