@@ -1,3 +1,5 @@
+#![tactic(auto)]
+
 use analysis::{LEAST_ANSWER, analyse};
 use lists::{FileFault, GREATEST_LENGTH};
 use std::io;

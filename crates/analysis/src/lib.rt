@@ -1,3 +1,5 @@
+#![tactic(auto)]
+
 mod analysing;
 mod answer;
 mod by_letter;

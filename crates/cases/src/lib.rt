@@ -1,3 +1,5 @@
+#![tactic(auto)]
+
 mod reader;
 mod said;
 mod short_forms;

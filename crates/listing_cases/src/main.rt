@@ -1,3 +1,5 @@
+#![tactic(auto)]
+
 mod list_calls;
 
 use crate::list_calls::{lines, read_into, write_into};

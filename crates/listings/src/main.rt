@@ -1,3 +1,5 @@
+#![tactic(auto)]
+
 mod compared;
 mod cursor;
 mod good;

@@ -1,3 +1,5 @@
+#![tactic(auto)]
+
 mod body;
 mod end_line;
 mod fault;

@@ -1,3 +1,5 @@
+#![tactic(auto)]
+
 mod called_runs;
 mod field_calls;
 mod forms;

@@ -5,7 +5,6 @@ use Rattle.recurrences.specs.Choice.{put}
 use Rattle.recurrences.specs.Discrepancy.{Column}
 use Rattle.recurrences.specs.Columns.{Columns, lessen}
 use Rattle.recurrences.specs.Operations.{Operations}
-use Rattle.recurrences.specs.Step.{moved}
 use Rattle.recurrences.proofs.FieldLaws.{ring_of, Field, neg_zero}
 use Rattle.recurrences.proofs.Vectors.{ColumnSpace}
 use Rattle.recurrences.proofs.Combinations.{Span, span_one, span_eq, span_bind, span_less, less_back, Among}

@@ -1,5 +1,5 @@
 -- One term of a discrepancy as it stands in the lists of codes, and the whole as a loop makes it.
-use Rattle.std.proofs.Common.{◌≡◌, ℕ, suc, ◌+◌, ◌-◌, ◌*◌, ◌<◌, min, cond, ltb, List, get_or, sym, ap, ◌∙◌, ap₂, add-one}
+use Rattle.std.proofs.Common.{◌≡◌, ℕ, ◌+◌, ◌-◌, ◌*◌, ◌<◌, min, cond, ltb, List, get_or, sym, ap, ◌∙◌, ap₂, add-one}
 use Rattle.std.proofs.lemmas.Bool.{cond-true, lt-ltb}
 use Rattle.rings.specs.Meaning.{Meaning}
 use Rattle.recurrences.specs.Operations.{Operations, numbers}

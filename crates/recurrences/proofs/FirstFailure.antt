@@ -1,12 +1,9 @@
 -- The first number that passes a test, the first failing place and row, and what they tell.
-use Rattle.std.proofs.Common.{◌≡◌, ℕ, zero, suc, ◌+◌, ◌-◌, ◌*◌, ◌<◌, ◌≤◌, Bool, true, false, cond, not, eqb, ◌≢◌, ◌⊎◌, List, Some, None, Option, sym, refl, ap, ◌∙◌, subst, ap₂, inl, inr, ⊎_elim, true≢false, arith}
+use Rattle.std.proofs.Common.{◌≡◌, ℕ, zero, suc, ◌+◌, ◌-◌, ◌<◌, ◌≤◌, Bool, true, false, cond, not, eqb, ◌≢◌, ◌⊎◌, List, Some, None, Option, sym, refl, ap, ◌∙◌, subst, ap₂, inl, inr, ⊎_elim, true≢false, arith}
 use mathlib.Core.Bool.{false≢true}
 use Rattle.std.proofs.lemmas.Bool.{cases_lt, cond-true, cond-false, eqb-true, eq-eqb}
 use Rattle.rings.specs.Meaning.{Meaning}
 use Rattle.recurrences.specs.Fits.{first, first_failure, fails, column_discrepancy, matrix_count, Told}
-use Rattle.recurrences.specs.Operations.{numbers}
-use Rattle.recurrences.specs.Discrepancy.{Fits}
-use Rattle.recurrences.specs.Reading.{matrices_in, column_in}
 
 here_or_later : (from i : ℕ) → from ≤ i → (from ≡ i) ⊎ (suc from ≤ i)
 here_or_later from i h = ⊎_elim (λ (p : from < i). inr p) (λ (p : i ≤ from). inl (omega arith)) (cases_lt from i)

@@ -8,7 +8,7 @@ use Rattle.recurrences.specs.Columns.{Columns, lessen}
 use Rattle.recurrences.specs.Operations.{Operations}
 use Rattle.recurrences.specs.Pivot.{Candidate, Midstep, best, candidate, candidate_by, gen_entry, aux_entry, against, pivot}
 use Rattle.recurrences.specs.Step.{by_auxiliary, copied, by_open, reduced, moved, row, row_by, rows, traded}
-use Rattle.recurrences.specs.Run.{start, entry_at}
+use Rattle.recurrences.specs.Run.{entry_at}
 use Rattle.recurrences.specs.Degrees.{least}
 use Rattle.recurrences.specs.Generators.{Ends}
 use Rattle.recurrences.proofs.FieldLaws.{ring_of, Field, neg_mul, zero_mul, neg_zero, field_of}

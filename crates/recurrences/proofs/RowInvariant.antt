@@ -6,7 +6,6 @@ use Rattle.recurrences.specs.Choice.{pick, put}
 use Rattle.recurrences.specs.Discrepancy.{Column}
 use Rattle.recurrences.specs.Columns.{Columns}
 use Rattle.recurrences.specs.Degrees.{total}
-use Rattle.recurrences.specs.Run.{start}
 use Rattle.recurrences.proofs.FieldLaws.{ring_of, Field, zero_mul, mul_zero, neg_zero, div_mul, neg_mul}
 use Rattle.recurrences.proofs.Vectors.{ScalarSpace, ColumnSpace, VectorSpace}
 use Rattle.recurrences.proofs.Combinations.{Span, span_none, span_one, span_eq, span_add, span_smul, span_less, less_solve}

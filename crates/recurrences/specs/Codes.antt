@@ -1,5 +1,5 @@
 -- Lists of codes.
-use Rattle.std.specs.Prelude.{ℕ, Bool, true, false, ◌&&◌, List, [], ◌∷◌, nat_lt}
+use Rattle.std.specs.Prelude.{ℕ, Bool, true, ◌&&◌, List, [], ◌∷◌, nat_lt}
 
 -- each entry is a code: a number below q
 abbrev pub all_codes : ℕ → List ℕ → Bool

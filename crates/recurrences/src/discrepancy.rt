@@ -7,9 +7,9 @@ use rings::Ring;
 
 // The products of `count` numbers of `a` from `i` on with those of `b` from `j` on, added up.
 fn dot<R: Ring>(ring: R, a: &[u32], i: usize, b: &[u32], j: usize, count: usize) -> u32
-    requires count_in_bounds { i + count ≤ length a.now }
-    requires count_in_bounds_2 { j + count ≤ length b.now }
-    ensures { result ≡ sum (numbers size (means ring)) count (λ c. (numbers size (means ring)).mul (slice_index a.now (i + c)) (slice_index b.now (j + c))) }
+    requires first_inside { i + count ≤ length a.now }
+    requires second_inside { j + count ≤ length b.now }
+    ensures { result ≡ sum (numbers R.size (R.means ring)) count (λ c. (numbers R.size (R.means ring)).mul (slice_index a.now (i + c)) (slice_index b.now (j + c))) }
 {
     let mut total = 0;
     for c in 0..count {
@@ -20,8 +20,8 @@ fn dot<R: Ring>(ring: R, a: &[u32], i: usize, b: &[u32], j: usize, count: usize)
 
 // Where a row of the matrix at a place begins in the list.
 fn row_start(list: &[u32], side: usize, place: usize, row: usize) -> usize
-    requires side_in_bounds { (place + 1) * (side * side) ≤ length list.now }
-    requires row_lt_side { row < side }
+    requires place_inside { (place + 1) * (side * side) ≤ length list.now }
+    requires row_inside { row < side }
     ensures start { result ≡ (place * side + row) * side }
     ensures room { result + side ≤ length list.now }
 {
@@ -47,10 +47,10 @@ pub fn entry<R: Ring>(
     place: usize,
     row: usize,
 ) -> u32
-    requires side_in_bounds { (place + 1) * (side * side) ≤ length list.now }
-    requires side_in_bounds_2 { (degree + 1) * side ≤ length column.now }
-    requires row_lt_side { row < side }
-    ensures { result ≡ column_discrepancy size (means ring) side degree list.now column.now place row }
+    requires place_inside { (place + 1) * (side * side) ≤ length list.now }
+    requires column_inside { (degree + 1) * side ≤ length column.now }
+    requires row_inside { row < side }
+    ensures { result ≡ column_discrepancy R.size (R.means ring) side degree list.now column.now place row }
 {
     let last = place.min(degree);
     let mut total = 0;

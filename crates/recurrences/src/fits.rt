@@ -9,8 +9,8 @@ use rings::Ring;
 
 // How many entries a matrix has.
 fn cells(side: usize) -> usize
-    requires side_nonzero { 0 < side }
-    requires side_bound { side ≤ 4 }
+    requires some { 0 < side }
+    requires small { side ≤ 4 }
     ensures product { result ≡ side * side }
     ensures positive { 0 < result }
 {
@@ -26,9 +26,9 @@ fn failing_row<R: Ring>(
     column: &[u32],
     place: usize,
 ) -> Option<usize>
-    requires side_in_bounds { (place + 1) * (side * side) ≤ length list.now }
-    requires side_in_bounds_2 { (degree + 1) * side ≤ length column.now }
-    ensures row { result ≡ first (fails size (means ring) side degree list.now column.now place) 0 side }
+    requires place_inside { (place + 1) * (side * side) ≤ length list.now }
+    requires column_inside { (degree + 1) * side ≤ length column.now }
+    ensures row { result ≡ first (fails R.size (R.means ring) side degree list.now column.now place) 0 side }
     ensures below { elim result [ Some k ↦ k < side | None ↦ side ≡ side ] }
 {
     for row in 0..side {
@@ -55,11 +55,11 @@ fn failure<R: Ring>(
     list: &[u32],
     column: &[u32],
 ) -> Option<(usize, usize)>
-    requires side_nonzero { 0 < side }
-    requires side_bound { side ≤ 4 }
-    requires column_len { length column.now ≡ side * (degree + 1) }
-    ensures answer { result ≡ first_failure size (means ring) side degree list.now column.now degree (matrix_count size (means ring) side degree list.now column.now - degree) }
-    ensures told { Told size (means ring) side degree list.now column.now result }
+    requires some { 0 < side }
+    requires small { side ≤ 4 }
+    requires whole { length column.now ≡ side * (degree + 1) }
+    ensures answer { result ≡ first_failure R.size (R.means ring) side degree list.now column.now degree (matrix_count R.size (R.means ring) side degree list.now column.now - degree) }
+    ensures told { Told R.size (R.means ring) side degree list.now column.now result }
 {
     let count = list.len() / cells(side);
     for place in degree..count {
@@ -79,8 +79,8 @@ pub fn fits<R: Ring>(
     list: &[u32],
     column: &[u32],
 ) -> Result<Option<(usize, usize)>, Refusal>
-    ensures answer { result ≡ fits_answer R.Ring.size (means ring) size degree list.now column.now }
-    ensures told { elim result [ Ok a ↦ Told R.Ring.size (means ring) size degree list.now column.now a | Err e ↦ fits_refusal R.Ring.size size degree list.now column.now ≡ Some e ] }
+    ensures answer { result ≡ fits_answer R.size (R.means ring) size degree list.now column.now }
+    ensures told { elim result [ Ok a ↦ Told R.size (R.means ring) size degree list.now column.now a | Err e ↦ fits_refusal R.size size degree list.now column.now ≡ Some e ] }
 {
     if size < 1 || size > GREATEST_SIZE {
         return Err(Refusal::Size);

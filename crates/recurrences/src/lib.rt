@@ -1,3 +1,5 @@
+#![tactic(auto)]
+
 pub mod codes;
 mod discrepancy;
 pub mod fits;

@@ -1,11 +1,11 @@
 -- The table of a meaning tells the arithmetic of that meaning.
-use Rattle.std.proofs.Common.{◌≡◌, ℕ, ◌<◌, ltb, List, [], map, get_or, Some, None, Option, refl, ap, ◌∙◌, zero-add, arith}
+use Rattle.std.proofs.Common.{◌≡◌, ℕ, ◌<◌, ltb, List, [], map, get_or, Some, None, Option, refl, sym, ap, ◌∙◌, zero-add, arith}
 use Rattle.std.specs.List.{range_with_len}
 use Rattle.std.proofs.lemmas.List.FromFn.{get_or-map-range_with_len}
 use Rattle.std.proofs.lemmas.Bool.{cond_both, ltb-true}
 use Rattle.rings.specs.Arithmetic.{reading}
 use Rattle.rings.specs.Meaning.{Meaning, Laws, code}
-use Rattle.rings.specs.Tables.{Table, encoded, decoded, row_of, first}
+use Rattle.rings.specs.Tables.{TableOf, encoded, decoded, row_of, first}
 
 code_below : (q x : ℕ) → 0 < q → code q x < q
 code_below q x h = cond_both (ltb x q) x 0 (λ y. y < q) (λ e. ltb-true x q e) (λ e. h)
@@ -32,5 +32,5 @@ module _ (q : ℕ) (m : Meaning) (inv : ℕ → Option ℕ) (h : 0 < q) where
     inverse = λ a. (ap first (entry_at (λ x. row_of (inv x)) a []) ∙ first_of_row (inv (code q a))) i;
   }
 
-pub decodes : (q : ℕ) (m : Meaning) (inv : ℕ → Option ℕ) → Laws q m → (t : Table) → t ≡ encoded q m inv → decoded t ≡ reading q m inv
-decodes q m inv laws t e = let two = laws.at_least_two in ap decoded e ∙ decoded_encoded q m inv (omega arith)
+pub decodes : (q : ℕ) (m : Meaning) (inv : ℕ → Option ℕ) → Laws q m → (t : TableOf q m inv) → decoded t.0 ≡ reading q m inv
+decodes q m inv laws t = let two = laws.at_least_two in ap decoded (sym t.1) ∙ decoded_encoded q m inv (omega arith)

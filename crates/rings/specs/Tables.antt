@@ -1,5 +1,6 @@
 -- A field's arithmetic written out as tables of numbers, which a ghost field can hold where it cannot hold functions.
-use Rattle.std.specs.Prelude.{ℕ, List, [], ◌∷◌, map, Some, None, Option, slice_index, slice_index_or}
+use mathlib.Core.Path.{contract, sym, ◌∙◌}
+use Rattle.std.specs.Prelude.{◌≡◌, ℕ, List, [], ◌∷◌, map, Some, None, Option, slice_index, slice_index_or}
 use Rattle.std.specs.List.{range_with_len}
 use Rattle.rings.specs.Arithmetic.{Arithmetic}
 use Rattle.rings.specs.Meaning.{Meaning, code}
@@ -27,6 +28,13 @@ encoded q m inv =
     ∷ map (λ a. map (λ b. m.product a b) (range_with_len 0 q)) (range_with_len 0 q)
     ∷ map (λ a. row_of (inv a)) (range_with_len 0 q)
     ∷ []
+
+-- A table that is that of a meaning and an inverse on q codes. There is just one.
+abbrev pub TableOf : ℕ → Meaning → (ℕ → Option ℕ) → Type 0
+TableOf q m inv = (t : Table) × (encoded q m inv ≡ t)
+
+pub table_of_prop : (q : ℕ) (m : Meaning) (inv : ℕ → Option ℕ) → IsProp (TableOf q m inv)
+table_of_prop q m inv = λ s t. sym (contract s.1) ∙ contract t.1
 
 abbrev size_of : Table → ℕ
 size_of t = slice_index (slice_index_or (slice_index_or t 0 []) 0 []) 0

@@ -1,3 +1,5 @@
+#![tactic(auto)]
+
 mod below;
 pub mod binary;
 pub mod bytes;

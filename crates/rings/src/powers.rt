@@ -17,7 +17,7 @@ pub trait Powers: Copy {
 pub fn product_by_places<P: Powers>(table: P, a: u32, b: u32) -> u32
     requires a_bound { a < 256 }
     requires b_bound { b < 256 }
-    ensures { result ≡ product_by_places (powers table) a b }
+    ensures { result ≡ product_by_places (P.powers table) a b }
 {
     if a == 0 || b == 0 {
         return 0;
@@ -28,7 +28,7 @@ pub fn product_by_places<P: Powers>(table: P, a: u32, b: u32) -> u32
 
 pub fn inverse_by_places<P: Powers>(table: P, a: u32) -> Option<u32>
     requires { a < 256 }
-    ensures { result ≡ inverse_by_places (powers table) a }
+    ensures { result ≡ inverse_by_places (P.powers table) a }
 {
     if a == 0 {
         return None;

@@ -26,7 +26,7 @@ pub trait Ring: Copy {
 }
 
 pub fn is_code<R: Ring>(x: u32) -> bool
-    ensures { result ≡ nat_lt x size }
+    ensures { result ≡ nat_lt x R.size }
 {
     (x as u64) < R::size()
 }

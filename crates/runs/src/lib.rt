@@ -1,3 +1,5 @@
+#![tactic(auto)]
+
 mod advance;
 mod checked;
 mod continuation;

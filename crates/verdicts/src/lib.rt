@@ -1,3 +1,5 @@
+#![tactic(auto)]
+
 mod driving;
 mod judging;
 mod misfit;

@@ -1,15 +1,18 @@
-use Rattle.std.proofs.Common.{◌≡◌, ℕ, ◌+◌, ◌-◌, ◌*◌, ◌/◌, ◌<◌, ◌≤◌, length, Some, None, sym, refl, ap, ◌∙◌, subst, mul_comm, arith}
+use Rattle.std.proofs.Common.{◌≡◌, ℕ, ◌+◌, ◌-◌, ◌*◌, ◌/◌, ◌≤◌, length, Some, None, sym, refl, ap, ◌∙◌, subst, mul_comm, arith}
 use Rattle.recurrences.specs.Fits.{Told, first_failure}
 use Rattle.recurrences.proofs.FirstFailure.{failure_here, failure_later, failure_done, failure_told}
 use Rattle.recurrences.proofs.Rooms.{matrix_room}
 use Rattle.recurrences.proofs.fits.failure.Goals as goal
 
-pub failing-row-requires : goal.failing-row-requires
-failing-row-requires g c =
+pub failing_row-requires : goal.failing_row-requires
+failing_row-requires g c =
     let N = c.args.side in
     let L = length c.args.list.now in
     let room : (c.loop-place.place + 1) * c.cells.result ≤ L = matrix_room c.loop-place.place c.cells.result L c.loop-place-test.true in
-    (subst (λ (x : ℕ). (c.loop-place.place + 1) * x ≤ L) c.cells.ensures.product room, omega (arith, c.requires.2, mul_comm N (c.args.degree + 1)))
+    record {
+      place_inside = subst (λ (x : ℕ). (c.loop-place.place + 1) * x ≤ L) c.cells.ensures.product room;
+      column_inside = omega (arith, c.requires.whole, mul_comm N (c.args.degree + 1));
+    }
 
 pub named-requires : goal.named-requires
 named-requires g c = omega (arith, c.in-Some.ensures.below)
@@ -31,7 +34,7 @@ returns-in-Some g c =
 
 pub loop-place-preserved : goal.loop-place-preserved
 loop-place-preserved g c =
-    c.loop-place.invariant ∙ failure_later _ _ c.args.side c.args.degree c.args.list.now c.args.column.now c.loop-place.place _ c.loop-place-test.true (sym c.in-default.ensures.row)
+    c.loop-place.invariant ∙ failure_later _ _ c.args.side c.args.degree c.args.list.now c.args.column.now c.loop-place.place _ c.loop-place-test.true (sym c.in_default.ensures.row)
 
 pub returns : goal.returns
 returns g c =

@@ -8,8 +8,8 @@ use Rattle.runs.proofs.continuation.write_continuation.Goals as goal
 pub loop-i-init : goal.loop-i-init
 loop-i-init g c = continued_none _ _ _ _ _ _ c.args.place.now
 
-pub write-next-requires : goal.write-next-requires
-write-next-requires g c =
+pub write_next-requires : goal.write_next-requires
+write_next-requires g c =
     let s = c.args.state.now in
     let few = c.requires.few in
     let fits : c.args.count * (s.size * s.size) ≤ length c.loop-i.place = omega arith in
@@ -22,9 +22,9 @@ write-next-requires g c =
 pub loop-i-preserved : goal.loop-i-preserved
 loop-i-preserved g c =
     let s = c.args.state.now in
-    let k = c.write-next.ensures in
+    let k = c.write_next.ensures in
     continued_more g.F.Ring.size (g.F.Ring.means c.args.field) (g.F.Field.inverse c.args.field) s.size s.count (recorded s) c.requires.sound.some (length_recorded s)
-    c.loop-i.place c.write-next.new.place c.loop-i.i c.loop-i.invariant (λ x lt. sym (k.before x lt)) k.codes k.zeros
+    c.loop-i.place c.write_next.new.place c.loop-i.i c.loop-i.invariant (λ x lt. sym (k.before x lt)) k.codes k.zeros
 
 pub returns : goal.returns
 returns g c =

@@ -4,8 +4,8 @@ use Rattle.runs.specs.Equations.{matrix_of}
 use Rattle.runs.proofs.NextWritten.{low_degrees, written_codes, written_zeros}
 use Rattle.runs.proofs.continuation.write_next.Goals as goal
 
-pub next-equations-equations-requires : goal.next-equations-equations-requires
-next-equations-equations-requires g c = record {
+pub next_equations-equations-requires : goal.next_equations-equations-requires
+next_equations-equations-requires g c = record {
   size = c.requires.sound.small;
   count = c.requires.sound.few;
   within = fewer_fit _ (c.args.i + 1) _ (length c.args.place.now) (omega arith) c.requires.within;
@@ -23,13 +23,13 @@ returns g c =
     let inverts = g.met.F.Field.inverts c.args.field in
     let s = c.args.state.now in
     let before = c.args.place.now in
-    let after = c.write-matrix.new.place in
-    let equations = c.next-equations-equations.result in
+    let after = c.write_matrix.new.place in
+    let equations = c.next_equations-equations.result in
     let x = matrix_of c.solve-matrix.result in
-    let k = c.write-matrix.ensures in
+    let k = c.write_matrix.ensures in
     record {
       before = k.before;
-      codes = written_codes q m inverse laws inverts s c.requires.sound before after c.args.i equations x c.next-equations-equations.ensures c.solve-matrix.ensures.solution k.written;
-      zeros = written_zeros q m inverse laws inverts s c.requires.sound before after c.args.i equations x c.next-equations-equations.ensures c.solve-matrix.ensures.solution k.written
+      codes = written_codes q m inverse laws inverts s c.requires.sound before after c.args.i equations x c.next_equations-equations.ensures c.solve-matrix.ensures.solution k.written;
+      zeros = written_zeros q m inverse laws inverts s c.requires.sound before after c.args.i equations x c.next_equations-equations.ensures c.solve-matrix.ensures.solution k.written
           (λ y lt. sym (k.before y lt));
     }

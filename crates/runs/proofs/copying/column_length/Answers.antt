@@ -5,14 +5,14 @@ use Rattle.runs.specs.Operations.{operations_of}
 use Rattle.runs.proofs.Recalled.{columns_recorded, held_low}
 use Rattle.runs.proofs.copying.column_length.Goals as goal
 
-pub overflow-add-result : goal.overflow-add-result
-overflow-add-result g c =
+pub overflow_add-result : goal.overflow_add-result
+overflow_add-result g c =
     let low : get_or c.args.state.now.columns.gen_degrees c.args.j 0 ≤ 128 =
     held_low g.F.Ring.size (g.F.Ring.means c.args.field) (g.F.Field.inverse c.args.field) (g.met.F.Ring.lawful c.args.field) (g.met.F.Field.inverts c.args.field) 0 c.args.state.now c.requires.sound.some c.requires.sound c.args.j c.requires.below in
     omega arith
 
-pub overflow-mul-result : goal.overflow-mul-result
-overflow-mul-result g c =
+pub overflow_mul-result : goal.overflow_mul-result
+overflow_mul-result g c =
     let s = c.args.state.now in
     let low : get_or s.columns.gen_degrees c.args.j 0 + 1 ≤ 130 =
     omega (arith, held_low g.F.Ring.size (g.F.Ring.means c.args.field) (g.F.Field.inverse c.args.field) (g.met.F.Ring.lawful c.args.field) (g.met.F.Field.inverts c.args.field) 0 s c.requires.sound.some c.requires.sound c.args.j c.requires.below) in

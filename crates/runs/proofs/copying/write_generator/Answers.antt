@@ -17,7 +17,7 @@ returns g c =
     let s = c.args.state.now in
     let N = s.size in
     let j = c.args.j in
-    c.write-column.ensures
+    c.write_column.ensures
     ∙ listed_same (length c.args.place.now) _ (λ i. (columns_after a N (recorded s)).gen j (i / N) (i % N))
     (λ i h. c.requires.sound.gens (j, c.requires.below) (i / N) (i % N) ∙ ap (λ (x : Columns (operations_of a).ring). x.gen j (i / N) (i % N)) (sym (columns_recorded a s c.requires.sound.some)))
     ∙ ap (λ (n : ℕ). listed n (λ i. (columns_after a N (recorded s)).gen j (i / N) (i % N))) c.requires.length

@@ -5,8 +5,8 @@ use Rattle.runs.proofs.degrees.total_of.Goals as goal
 pub loop-j-init : goal.loop-j-init
 loop-j-init c = (omega arith, total_none _)
 
-pub overflow-add-sum : goal.overflow-add-sum
-overflow-add-sum c = omega (arith, c.loop-j.invariant.0, c.requires.low c.loop-j.j c.loop-j-test.true)
+pub overflow_add-sum : goal.overflow_add-sum
+overflow_add-sum c = omega (arith, c.loop-j.invariant.0, c.requires.low c.loop-j.j c.loop-j-test.true)
 
 pub loop-j-preserved : goal.loop-j-preserved
 loop-j-preserved c = (

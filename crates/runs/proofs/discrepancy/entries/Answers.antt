@@ -7,8 +7,8 @@ loop-j-init g c = (refl, cut_zeros _ 4)
 
 pub loop-j-preserved : goal.loop-j-preserved
 loop-j-preserved g c = (
-  length-set c.loop-j.answer c.loop-j.j c.open-entry.result ∙ c.loop-j.invariant.0,
-  cut_more 0 (λ (x : ℕ). x) _ _ c.loop-j.answer c.loop-j.j c.open-entry.result (omega arith) c.loop-j.invariant.1 c.open-entry.ensures,
+  length-set c.loop-j.answer c.loop-j.j c.open_entry.result ∙ c.loop-j.invariant.0,
+  cut_more 0 (λ (x : ℕ). x) _ _ c.loop-j.answer c.loop-j.j c.open_entry.result (omega arith) c.loop-j.invariant.1 c.open_entry.ensures,
 )
 
 pub returns : goal.returns

@@ -8,8 +8,8 @@ returns-then-size-eq1 g c =
     let a = reading g.F.Ring.size (g.F.Ring.means c.args.field) (g.F.Field.inverse c.args.field) in
     let own = c.args.own.now.entries in
     let other = c.args.other.now.entries in
-    let xs = c.add-at.new.own.entries in
-    let one = added_more a c.args.c own other 0 own xs (omega arith) (none_added a c.args.c own other c.add-at.ensures.length) c.add-at.ensures.entries in
+    let xs = c.add_at.new.own.entries in
+    let one = added_more a c.args.c own other 0 own xs (omega arith) (none_added a c.args.c own other c.add_at.ensures.length) c.add_at.ensures.entries in
     all_added a c.args.c own other 1 c.args.size xs c.if-size-eq1.true one
 
 pub returns-then-size-eq2 : goal.returns-then-size-eq2
@@ -17,10 +17,10 @@ returns-then-size-eq2 g c =
     let a = reading g.F.Ring.size (g.F.Ring.means c.args.field) (g.F.Field.inverse c.args.field) in
     let own = c.args.own.now.entries in
     let other = c.args.other.now.entries in
-    let xs = c.add-at.new.own.entries in
-    let ys = c.add-at-2.new.own.entries in
-    let one = added_more a c.args.c own other 0 own xs (omega arith) (none_added a c.args.c own other c.add-at.ensures.length) c.add-at.ensures.entries in
-    let two = added_more a c.args.c own other 1 xs ys (omega arith) one c.add-at-2.ensures.entries in
+    let xs = c.add_at.new.own.entries in
+    let ys = c.add_at-2.new.own.entries in
+    let one = added_more a c.args.c own other 0 own xs (omega arith) (none_added a c.args.c own other c.add_at.ensures.length) c.add_at.ensures.entries in
+    let two = added_more a c.args.c own other 1 xs ys (omega arith) one c.add_at-2.ensures.entries in
     all_added a c.args.c own other 2 c.args.size ys c.if-size-eq2.true two
 
 pub returns-then-size-eq3 : goal.returns-then-size-eq3
@@ -28,12 +28,12 @@ returns-then-size-eq3 g c =
     let a = reading g.F.Ring.size (g.F.Ring.means c.args.field) (g.F.Field.inverse c.args.field) in
     let own = c.args.own.now.entries in
     let other = c.args.other.now.entries in
-    let xs = c.add-at.new.own.entries in
-    let ys = c.add-at-2.new.own.entries in
-    let zs = c.add-at-3.new.own.entries in
-    let one = added_more a c.args.c own other 0 own xs (omega arith) (none_added a c.args.c own other c.add-at.ensures.length) c.add-at.ensures.entries in
-    let two = added_more a c.args.c own other 1 xs ys (omega arith) one c.add-at-2.ensures.entries in
-    let three = added_more a c.args.c own other 2 ys zs (omega arith) two c.add-at-3.ensures.entries in
+    let xs = c.add_at.new.own.entries in
+    let ys = c.add_at-2.new.own.entries in
+    let zs = c.add_at-3.new.own.entries in
+    let one = added_more a c.args.c own other 0 own xs (omega arith) (none_added a c.args.c own other c.add_at.ensures.length) c.add_at.ensures.entries in
+    let two = added_more a c.args.c own other 1 xs ys (omega arith) one c.add_at-2.ensures.entries in
+    let three = added_more a c.args.c own other 2 ys zs (omega arith) two c.add_at-3.ensures.entries in
     all_added a c.args.c own other 3 c.args.size zs c.if-size-eq3.true three
 
 pub returns : goal.returns
@@ -41,12 +41,12 @@ returns g c =
     let a = reading g.F.Ring.size (g.F.Ring.means c.args.field) (g.F.Field.inverse c.args.field) in
     let own = c.args.own.now.entries in
     let other = c.args.other.now.entries in
-    let xs = c.add-at.new.own.entries in
-    let ys = c.add-at-2.new.own.entries in
-    let zs = c.add-at-3.new.own.entries in
-    let ws = c.add-at-4.new.own.entries in
-    let one = added_more a c.args.c own other 0 own xs (omega arith) (none_added a c.args.c own other c.add-at.ensures.length) c.add-at.ensures.entries in
-    let two = added_more a c.args.c own other 1 xs ys (omega arith) one c.add-at-2.ensures.entries in
-    let three = added_more a c.args.c own other 2 ys zs (omega arith) two c.add-at-3.ensures.entries in
-    let four = added_more a c.args.c own other 3 zs ws (omega arith) three c.add-at-4.ensures.entries in
+    let xs = c.add_at.new.own.entries in
+    let ys = c.add_at-2.new.own.entries in
+    let zs = c.add_at-3.new.own.entries in
+    let ws = c.add_at-4.new.own.entries in
+    let one = added_more a c.args.c own other 0 own xs (omega arith) (none_added a c.args.c own other c.add_at.ensures.length) c.add_at.ensures.entries in
+    let two = added_more a c.args.c own other 1 xs ys (omega arith) one c.add_at-2.ensures.entries in
+    let three = added_more a c.args.c own other 2 ys zs (omega arith) two c.add_at-3.ensures.entries in
+    let four = added_more a c.args.c own other 3 zs ws (omega arith) three c.add_at-4.ensures.entries in
     all_added a c.args.c own other 4 c.args.size ws (omega arith) four

@@ -10,10 +10,10 @@ loop-j-preserved g c =
     let a = reading g.F.Ring.size (g.F.Ring.means c.args.field) (g.F.Field.inverse c.args.field) in
     let N = c.args.size in
     let j = c.loop-j.j in
-    let new = c.reduce-one.new.own in (
+    let new = c.reduce_one.new.own in (
       length-set c.loop-j.columns j new ∙ c.loop-j.invariant.0,
       cut_more no_column (column_of N) _ _ c.loop-j.columns j new (omega arith) c.loop-j.invariant.1
-          (c.reduce-one.ensures
+          (c.reduce_one.ensures
           ∙ ap {B = ℕ → ℕ → ℕ} (reduced_by a N c.args.count (get_or c.args.entries.now j 0) c.args.inverse (column_of N c.args.pivot.now)) (cut_here no_column (column_of N) _ _ c.loop-j.columns j c.loop-j.invariant.1)),
     )
 

@@ -3,8 +3,8 @@ use Rattle.recurrences.proofs.Rooms.{row_room, under_multiple}
 use Rattle.runs.proofs.TakenAndWritten.{taken_entry, written_entry}
 use Rattle.runs.proofs.next_matrix.code_of.Goals as goal
 
-pub overflow-mul-result : goal.overflow-mul-result
-overflow-mul-result c =
+pub overflow_mul-result : goal.overflow_mul-result
+overflow_mul-result c =
     let N = c.args.state.now.size in
     let i = c.args.l - c.args.state.now.count in
     let r = c.args.r in
@@ -12,8 +12,8 @@ overflow-mul-result c =
     let up : i * N + r ≤ (i * N + r) * N = under_multiple (i * N + r) r N c.requires.row in
     omega arith
 
-pub overflow-add-result : goal.overflow-add-result
-overflow-add-result c =
+pub overflow_add-result : goal.overflow_add-result
+overflow_add-result c =
     let N = c.args.state.now.size in
     let i = c.args.l - c.args.state.now.count in
     let r = c.args.r in

@@ -12,8 +12,8 @@ use Rattle.runs.proofs.next_matrix.entry_behind.Goals as goal
 pub loop-k-init : goal.loop-k-init
 loop-k-init g c = sum_none (operations_of (reading g.F.Ring.size (g.F.Ring.means c.args.field) (g.F.Field.inverse c.args.field))).ring _
 
-pub row-times-requires : goal.row-times-requires
-row-times-requires g c = record {
+pub row_times-requires : goal.row_times-requires
+row_times-requires g c = record {
   size = c.requires.size;
   count = c.requires.count;
   row = c.requires.row;

@@ -11,5 +11,5 @@ pub loop-c-preserved : goal.loop-c-preserved
 loop-c-preserved g c =
     let a = reading g.F.Ring.size (g.F.Ring.means c.args.field) (g.F.Field.inverse c.args.field) in
     c.sum-total.ensures
-    ∙ ap₂ a.sum c.loop-c.invariant (c.product.ensures ∙ ap (λ (x : ℕ). a.product x (get_or c.args.vector.now.entries c.loop-c.c 0)) c.code-of.ensures)
+    ∙ ap₂ a.sum c.loop-c.invariant (c.product.ensures ∙ ap (λ (x : ℕ). a.product x (get_or c.args.vector.now.entries c.loop-c.c 0)) c.code_of.ensures)
     ∙ sum_more (operations_of a).ring _ c.loop-c.c

@@ -10,7 +10,7 @@ pub loop-r-preserved : goal.loop-r-preserved
 loop-r-preserved g c =
     let a = reading g.F.Ring.size (g.F.Ring.means c.args.field) (g.F.Field.inverse c.args.field) in (
       length-set c.loop-r.entries c.loop-r.r c.opposite.result ∙ c.loop-r.invariant.0,
-      cut_more 0 (λ (x : ℕ). x) _ _ c.loop-r.entries c.loop-r.r c.opposite.result (omega arith) c.loop-r.invariant.1 (c.opposite.ensures ∙ ap a.opposite c.entry-behind.ensures),
+      cut_more 0 (λ (x : ℕ). x) _ _ c.loop-r.entries c.loop-r.r c.opposite.result (omega arith) c.loop-r.invariant.1 (c.opposite.ensures ∙ ap a.opposite c.entry_behind.ensures),
     )
 
 pub returns : goal.returns

@@ -8,16 +8,16 @@ returns-in-None c = record {
   smaller = tt;
 }
 
-pub returns-then-auxiliary-wins : goal.returns-then-auxiliary-wins
-returns-then-auxiliary-wins c = record {
-  value = against_tie c.args.entries.now c.args.degrees.now c.args.aux_degree c.args.size c.in-Some.l c.in-Some.ensures.value (c.auxiliary-wins.ensures.wins c.if-auxiliary-wins.true);
+pub returns-then-auxiliary_wins : goal.returns-then-auxiliary_wins
+returns-then-auxiliary_wins c = record {
+  value = against_tie c.args.entries.now c.args.degrees.now c.args.aux_degree c.args.size c.in-Some.l c.in-Some.ensures.value (c.auxiliary_wins.ensures.wins c.if-auxiliary_wins.true);
   found = tt;
   smaller = tt;
 }
 
-pub returns-else-auxiliary-wins : goal.returns-else-auxiliary-wins
-returns-else-auxiliary-wins c = record {
-  value = against_win c.args.entries.now c.args.degrees.now c.args.aux_degree c.args.size c.in-Some.l c.in-Some.ensures.value (c.auxiliary-wins.ensures.loses c.if-auxiliary-wins.false);
+pub returns-else-auxiliary_wins : goal.returns-else-auxiliary_wins
+returns-else-auxiliary_wins c = record {
+  value = against_win c.args.entries.now c.args.degrees.now c.args.aux_degree c.args.size c.in-Some.l c.in-Some.ensures.value (c.auxiliary_wins.ensures.loses c.if-auxiliary_wins.false);
   found = c.in-Some.ensures.found;
-  smaller = c.auxiliary-wins.ensures.loses c.if-auxiliary-wins.false;
+  smaller = c.auxiliary_wins.ensures.loses c.if-auxiliary_wins.false;
 }

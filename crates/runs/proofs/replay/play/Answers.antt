@@ -26,13 +26,13 @@ pub loop-i-preserved : goal.loop-i-preserved
 loop-i-preserved g c =
     let r = c.args.run.now in
     let now = c.loop-i.run in
-    let last = c.promised-call.new.run in
+    let last = c.promised_call.new.run in
     let reads : g.row.F.Denot → Arithmetic = λ f. reading g.F.Ring.size (g.F.Ring.means f) (g.F.Field.inverse f) in
     let script = c.args.script.now in
     let answers = c.loop-i.answers in
     let i = c.loop-i.i in
-    let x = c.promised-call.result in
-    let e = c.promised-call.ensures in
+    let x = c.promised_call.result in
+    let e = c.promised_call.ensures in
     let k = c.loop-i.invariant in
     let within : i < length answers = omega (arith, k.0, c.loop-i-test.true) in
     let over : last.tie.field ≡ r.tie.field = e.over ∙ k.2 in

@@ -33,8 +33,8 @@ returns-in-None g c =
     subst (Matches a N s opened) (row_none a N M n i t es y s opened R c.requires.row (against_none es ds d N none))
     (idle_row a N Z M n i t es y s opened R c.requires.row (no_candidate es ds N none))
 
-pub returns-then-auxiliary-wins : goal.returns-then-auxiliary-wins
-returns-then-auxiliary-wins g c =
+pub returns-then-auxiliary_wins : goal.returns-then-auxiliary_wins
+returns-then-auxiliary_wins g c =
     let q = g.F.Ring.size in
     let m = g.F.Ring.means c.args.field in
     let inv = g.F.Field.inverse c.args.field in
@@ -45,29 +45,29 @@ returns-then-auxiliary-wins g c =
     let i = c.args.i in
     let M = matrices_of N c.args.matrices.now in
     let es = c.entries-es.result in
-    let y = c.entry-aux-entry.result in
+    let y = c.entry-aux_entry.result in
     let s = c.args.columns.now in
     let opened = c.args.opened.now in
-    let h = c.reduce-by.ensures in
-    let tie = against_tie es s.gen_degrees (get_or s.aux_degrees i 0) N c.in-Some.l c.in-Some.ensures.value (c.auxiliary-wins.ensures.wins c.if-auxiliary-wins.true) in
+    let h = c.reduce_by.ensures in
+    let tie = against_tie es s.gen_degrees (get_or s.aux_degrees i 0) N c.in-Some.l c.in-Some.ensures.value (c.auxiliary_wins.ensures.wins c.if-auxiliary_wins.true) in
     λ t A T.
-    let R = ready a N M n i t es y s opened c.requires.row A T c.entries-es.ensures c.entry-aux-entry.ensures in
-    subst (Matches a N c.reduce-by.new.columns opened) (row_none a N M n i t es y s opened R c.requires.row tie)
-    (aux_row a N Z M n i t es y s opened R c.requires.row c.reduce-by.new.columns h.gens h.gen_degrees h.auxs h.aux_degrees)
+    let R = ready a N M n i t es y s opened c.requires.row A T c.entries-es.ensures c.entry-aux_entry.ensures in
+    subst (Matches a N c.reduce_by.new.columns opened) (row_none a N M n i t es y s opened R c.requires.row tie)
+    (aux_row a N Z M n i t es y s opened R c.requires.row c.reduce_by.new.columns h.gens h.gen_degrees h.auxs h.aux_degrees)
 
-pub returns-else-auxiliary-wins : goal.returns-else-auxiliary-wins
-returns-else-auxiliary-wins g c =
+pub returns-else-auxiliary_wins : goal.returns-else-auxiliary_wins
+returns-else-auxiliary_wins g c =
     let a = reading g.F.Ring.size (g.F.Ring.means c.args.field) (g.F.Field.inverse c.args.field) in
     let N = c.args.size in
     let n = c.args.place in
     let i = c.args.i in
     let M = matrices_of N c.args.matrices.now in
     let es = c.entries-es.result in
-    let y = c.entry-aux-entry.result in
+    let y = c.entry-aux_entry.result in
     let s = c.args.columns.now in
     let opened = c.args.opened.now in
     let l = c.in-Some.l in
-    let win = against_win es s.gen_degrees (get_or s.aux_degrees i 0) N l c.in-Some.ensures.value (c.auxiliary-wins.ensures.loses c.if-auxiliary-wins.false) in
+    let win = against_win es s.gen_degrees (get_or s.aux_degrees i 0) N l c.in-Some.ensures.value (c.auxiliary_wins.ensures.loses c.if-auxiliary_wins.false) in
     λ t A T.
-    let R = ready a N M n i t es y s opened c.requires.row A T c.entries-es.ensures c.entry-aux-entry.ensures in
+    let R = ready a N M n i t es y s opened c.requires.row A T c.entries-es.ensures c.entry-aux_entry.ensures in
     subst (Matches a N c.by_open.new.columns c.by_open.new.opened) (row_some a N M n i t es y s opened R c.requires.row l win) (c.by_open.ensures M n t R)

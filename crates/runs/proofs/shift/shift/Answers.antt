@@ -8,7 +8,7 @@ pub loop-j-preserved : goal.loop-j-preserved
 loop-j-preserved c =
     let j = c.loop-j.j in
     let columns = c.loop-j.columns in
-    let new = c.shift-one.new.column in
+    let new = c.shift_one.new.column in
     let entry = c.args.columns.now in
     let degree : ℕ → ℕ = λ x. get_or c.args.degrees.now x 0 in
     let (long, done, left) = c.loop-j.invariant in (
@@ -16,6 +16,6 @@ loop-j-preserved c =
       below_more _ _
           (λ x h. let ne : x ≢ j = omega arith in subst (Shifted (degree x) (get_or entry x no_column)) (sym (get_or-set_other columns j x new no_column ne)) (done x h))
           (subst (Shifted (degree j) (get_or entry j no_column)) (sym (get_or-set_same columns j new no_column (omega arith)))
-          (subst (λ (x : Column). Shifted (degree j) x new) (left j (omega arith)) c.shift-one.ensures)),
+          (subst (λ (x : Column). Shifted (degree j) x new) (left j (omega arith)) c.shift_one.ensures)),
       λ x h. let ne : x ≢ j = omega arith in get_or-set_other columns j x new no_column ne ∙ left x (omega arith),
     )

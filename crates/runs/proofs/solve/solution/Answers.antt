@@ -7,8 +7,8 @@ use Rattle.runs.proofs.solve.solution.Goals as goal
 
 pub loop-r-preserved : goal.loop-r-preserved
 loop-r-preserved g c = (
-  length-set c.loop-r.rows c.loop-r.r c.solution-row.result ∙ c.loop-r.invariant.0,
-  cut_more no_vector entries_of _ _ c.loop-r.rows c.loop-r.r c.solution-row.result (omega arith) c.loop-r.invariant.1 (fun_ext c.solution-row.ensures),
+  length-set c.loop-r.rows c.loop-r.r c.solution_row.result ∙ c.loop-r.invariant.0,
+  cut_more no_vector entries_of _ _ c.loop-r.rows c.loop-r.r c.solution_row.result (omega arith) c.loop-r.invariant.1 (fun_ext c.solution_row.ensures),
 )
 
 pub returns : goal.returns

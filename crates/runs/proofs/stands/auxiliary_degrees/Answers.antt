@@ -10,5 +10,5 @@ pub returns : goal.returns
 returns g c =
     let a = reading g.F.Ring.size (g.F.Ring.means c.args.field) (g.F.Field.inverse c.args.field) in
     let s = c.args.state.now in
-    c.shown-of.ensures ∙ shown_same s.size _ _ c.requires.sound.aux_degrees
+    c.shown_of.ensures ∙ shown_same s.size _ _ c.requires.sound.aux_degrees
     ∙ ap (λ (x : Columns (operations_of a).ring). shown s.size x.aux_degree) (sym (columns_recorded a s c.requires.sound.some))

@@ -16,7 +16,7 @@ returns g c =
     let inv = g.F.Field.inverse c.args.field in
     let positive = (adds_zero q m inv (g.met.F.Ring.lawful c.args.field) (g.met.F.Field.inverts c.args.field)).1 in
     record {
-      state = c.started-tables.ensures;
-      sound = subst (Sound (reading q m inv)) (sym c.started-tables.ensures) (started_sound (reading q m inv) c.args.size c.requires.some c.requires.small positive);
-      taken = ap recorded c.started-tables.ensures ∙ codes_none c.args.size 0 (matrices_of c.args.size (started c.args.size).matrices) refl;
+      state = c.started_tables.ensures;
+      sound = subst (Sound (reading q m inv)) (sym c.started_tables.ensures) (started_sound (reading q m inv) c.args.size c.requires.some c.requires.small positive);
+      taken = ap recorded c.started_tables.ensures ∙ codes_none c.args.size 0 (matrices_of c.args.size (started c.args.size).matrices) refl;
     }

@@ -14,7 +14,7 @@ loop-k-preserved g c =
     let own = c.loop-k.own in
     let other = c.loop-k.other in
     let old = get_or own k no_vector in
-    let new = c.add-multiple.new.own in
+    let new = c.add_multiple.new.own in
     let (long, long-other, left, done, done-other) = c.loop-k.invariant in
     let here : get_or other k no_vector ≡ get_or c.args.other.now k no_vector = cut_here no_vector (λ (v : Vector). v) _ _ other k done-other in (
       length-set own k new ∙ long,
@@ -22,7 +22,7 @@ loop-k-preserved g c =
       λ x h. let ne : x ≢ k = omega arith in get_or-set_other own k x new no_vector ne ∙ left x (omega arith),
       cut_more no_vector (vector_of N) _ _ own k new (omega arith) done
           (vector_plus_times a N c.args.c old (get_or other k no_vector) new (coefficients_of N c.args.own.now k) (coefficients_of N c.args.other.now k)
-          (cut_here no_vector (vector_of N) _ _ own k done) (ap {B = ℕ → ℕ} (vector_of N) here) c.add-multiple.ensures),
+          (cut_here no_vector (vector_of N) _ _ own k done) (ap {B = ℕ → ℕ} (vector_of N) here) c.add_multiple.ensures),
       cut_more no_vector (λ (v : Vector). v) _ _ other k old (omega arith) done-other (left k (omega arith)),
     )
 
