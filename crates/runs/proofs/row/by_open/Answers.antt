@@ -53,5 +53,5 @@ returns-else-aux_entry-eq0 g c =
     traded_row a N Z M n i t es y s opened R c.requires.row l c.requires.column c.requires.candidate (omega arith) c.trade.new.columns c.reduce_by-else-aux_entry-eq0.new.columns c.if-aux_entry-eq0.false
     (trade_holds a N Z M n i t es y s opened R c.requires.row l c.requires.column c.requires.smaller c.trade.new.columns c.product-part.result part
     (c.product-part.ensures ∙ ap (a.product (get_or es l 0)) c.inverse_or_zero.ensures ∙ part_is a N Z M n i t es y s opened R c.requires.row l c.requires.column c.requires.candidate (omega arith))
-    k.gen-column k.other-gens k.aux-column k.other_auxs k.gen_degrees k.aux_degrees (omega (arith, k.lengths.0)) (omega (arith, k.lengths.1)))
+    k.gen_column k.other_gens k.aux_column k.other_auxs k.gen_degrees k.aux_degrees (omega (arith, k.lengths.0)) (omega (arith, k.lengths.1)))
     h.gens h.gen_degrees h.auxs h.aux_degrees
