@@ -8,7 +8,7 @@ pub loop-x-preserved : goal.loop-x-preserved
 loop-x-preserved c =
     let xs = c.args.numbers.now in let i = c.loop-x.x-index in let v = get_or xs i 0 in
     let e : commaed (drop i xs) ≡ (comma ∷ decimal v) ++ commaed (drop (i + 1) xs) = at_drop_more commaed xs i 0 c.loop-x-test.true in
-    (omega (arith, c.loop-x.invariant.0, c.digits-of.ensures.few), omega (arith, ap length e, length-append (comma ∷ decimal v) (commaed (drop (i + 1) xs)), c.loop-x.invariant.1, c.digits-of.ensures.value))
+    (omega (arith, c.loop-x.invariant.0, c.digits_of.ensures.few), omega (arith, ap length e, length-append (comma ∷ decimal v) (commaed (drop (i + 1) xs)), c.loop-x.invariant.1, c.digits_of.ensures.value))
 
 pub returns : goal.returns
 returns c =

@@ -5,18 +5,18 @@ use Rattle.lists.proofs.Streamed.{line_length}
 use Rattle.lists.proofs.Writing.{put_three}
 use Rattle.lists.proofs.line_text.put_line.Goals as goal
 
-pub put-bytes-numbers-at-requires : goal.put-bytes-numbers-at-requires
-put-bytes-numbers-at-requires c = omega (arith, c.requires, line_length c.args.start.now c.args.numbers.now)
+pub put_bytes-numbers_at-requires : goal.put_bytes-numbers_at-requires
+put_bytes-numbers_at-requires c = omega (arith, c.requires, line_length c.args.start.now c.args.numbers.now)
 
-pub put-fields-end-at-requires : goal.put-fields-end-at-requires
-put-fields-end-at-requires c = omega (arith, c.requires, line_length c.args.start.now c.args.numbers.now, c.put-bytes-numbers-at.ensures.next, c.put-bytes-numbers-at.auto.place)
+pub put_fields-end_at-requires : goal.put_fields-end_at-requires
+put_fields-end_at-requires c = omega (arith, c.requires, line_length c.args.start.now c.args.numbers.now, c.put_bytes-numbers_at.ensures.next, c.put_bytes-numbers_at.auto.place)
 
 pub put-requires : goal.put-requires
-put-requires c = omega (arith, c.requires, line_length c.args.start.now c.args.numbers.now, c.put-bytes-numbers-at.ensures.next, c.put-bytes-numbers-at.auto.place, c.put-fields-end-at.ensures.next, c.put-fields-end-at.auto.place)
+put-requires c = omega (arith, c.requires, line_length c.args.start.now c.args.numbers.now, c.put_bytes-numbers_at.ensures.next, c.put_bytes-numbers_at.auto.place, c.put_fields-end_at.ensures.next, c.put_fields-end_at.auto.place)
 
 pub returns : goal.returns
 returns c =
-    let a = c.put-bytes-numbers-at in let b = c.put-fields-end-at in
+    let a = c.put_bytes-numbers_at in let b = c.put_fields-end_at in
     let n = line_length c.args.start.now c.args.numbers.now in
     record {
       next = omega (arith, n, a.ensures.next, b.ensures.next, c.put.ensures.next);

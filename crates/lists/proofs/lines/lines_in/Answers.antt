@@ -5,8 +5,8 @@ use Rattle.lists.specs.FileChecks.{lines_of}
 use Rattle.lists.proofs.Opened.{opened_some, lines_few}
 use Rattle.lists.proofs.lines.lines_in.Goals as goal
 
-pub overflow-sub-file : goal.overflow-sub-file
-overflow-sub-file c = omega (arith, opened_some c.args.file.now tt c.requires.ended)
+pub overflow_sub-file : goal.overflow_sub-file
+overflow_sub-file c = omega (arith, opened_some c.args.file.now tt c.requires.ended)
 
 pub returns : goal.returns
 returns c =

@@ -4,5 +4,5 @@ use Rattle.lists.specs.Split.{split}
 use Rattle.lists.proofs.Counts.{counted_ok}
 use Rattle.lists.proofs.matrix_line.check_matrix.Goals as goal
 
-pub check-codes-requires : goal.check-codes-requires
-check-codes-requires c = omega (arith, counted_ok (c.cells.result + 1) c.args.line.number (split comma c.args.line.bytes.now) _ c.in-ok-check-count.ensures)
+pub check_codes-requires : goal.check_codes-requires
+check_codes-requires c = omega (arith, counted_ok (c.cells.result + 1) c.args.line.number (split comma c.args.line.bytes.now) _ c.in_ok-check_count.ensures)

@@ -7,7 +7,7 @@ use Rattle.lists.proofs.number.read_number.Goals as goal
 pub returns-in-None : goal.returns-in-None
 returns-in-None c =
     let xs = c.args.bytes.now in let i = c.loop-b.b-index in let n = c.loop-b.n in
-    numeral_is xs _ c.if-not-is-shortest.ensures
+    numeral_is xs _ c.if-not-is_shortest.ensures
     (sym c.loop-b.invariant.1 ∙ at_drop_more (numeral_on n) xs i 0 c.loop-b-test.true ∙ digit_refused n (get_or xs i 0) (drop (i + 1) xs) c.in-None.ensures)
 
 pub loop-b-preserved : goal.loop-b-preserved
@@ -20,5 +20,5 @@ loop-b-preserved c =
 pub returns : goal.returns
 returns c =
     let xs = c.args.bytes.now in let n = c.loop-b.n in
-    numeral_is xs _ c.if-not-is-shortest.ensures
+    numeral_is xs _ c.if-not-is_shortest.ensures
     (sym c.loop-b.invariant.1 ∙ at_drop_all (numeral_on n) xs c.loop-b.b-index c.loop-b-test.false ∙ digits_end n (omega arith))

@@ -4,4 +4,4 @@ use Rattle.lists.specs.Cursor.{left}
 use Rattle.lists.proofs.parts.part_at.Given as goal
 
 abbrev pub invariant-loop-i : goal.invariant-loop-i
-invariant-loop-i l = (l.parts.mark ≡ l.mark) × (left l.mark l.parts.rest ≡ drop l.-i (split l.mark l.bytes))
+invariant-loop-i l = (l.parts.mark ≡ l.mark) × (left l.mark l.parts.rest ≡ drop l._i (split l.mark l.bytes))

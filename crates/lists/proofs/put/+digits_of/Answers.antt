@@ -9,4 +9,4 @@ pub returns-else-n-lt10 : goal.returns-else-n-lt10
 returns-else-n-lt10 t c =
     let s = length_step c.args.n c.if-n-lt10.false (omega arith) in
     let f = digits_few c.args.n (omega arith) in
-    record { value = omega (arith, c.digits-of.ensures.value); few = omega (arith, c.digits-of.ensures.value) }
+    record { value = omega (arith, c.digits_of.ensures.value); few = omega (arith, c.digits_of.ensures.value) }

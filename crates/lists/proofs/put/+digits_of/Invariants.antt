@@ -1,4 +1,4 @@
 use Rattle.lists.proofs.put.+digits_of.Given as goal
 
-abbrev pub decreases-digits-of : goal.decreases-digits-of
-decreases-digits-of l = l.n
+abbrev pub decreases-digits_of : goal.decreases-digits_of
+decreases-digits_of l = l.n

@@ -7,13 +7,13 @@ use Rattle.lists.proofs.put.+put_number.Goals as goal
 pub put-requires : goal.put-requires
 put-requires t c = omega (arith, length_digit c.args.n c.if-n-lt10.true, c.requires)
 
-pub put-number-next-requires : goal.put-number-next-requires
-put-number-next-requires t c = omega (arith, length_step c.args.n c.if-n-lt10.false (omega arith), c.requires)
+pub put_number-next-requires : goal.put_number-next-requires
+put_number-next-requires t c = omega (arith, length_step c.args.n c.if-n-lt10.false (omega arith), c.requires)
 
 pub put-requires-else-n-lt10 : goal.put-requires-else-n-lt10
 put-requires-else-n-lt10 t c =
     let s = length_step c.args.n c.if-n-lt10.false (omega arith) in
-    omega (arith, c.requires, c.put-number-next.ensures.next, c.put-number-next.auto)
+    omega (arith, c.requires, c.put_number-next.ensures.next, c.put_number-next.auto)
 
 pub returns-then-n-lt10 : goal.returns-then-n-lt10
 returns-then-n-lt10 t c =
@@ -23,4 +23,4 @@ returns-then-n-lt10 t c =
 pub returns-else-n-lt10 : goal.returns-else-n-lt10
 returns-else-n-lt10 t c =
     let s = length_step c.args.n c.if-n-lt10.false (omega arith) in
-    record { next = omega (arith, c.put-else-n-lt10.ensures.next, c.put-number-next.ensures.next); place = number_put c.args.place.now _ _ c.args.at c.put-number-next.result c.args.n c.if-n-lt10.false (omega arith) c.requires c.put-number-next.ensures.next c.put-number-next.ensures.place c.put-else-n-lt10.ensures.place }
+    record { next = omega (arith, c.put-else-n-lt10.ensures.next, c.put_number-next.ensures.next); place = number_put c.args.place.now _ _ c.args.at c.put_number-next.result c.args.n c.if-n-lt10.false (omega arith) c.requires c.put_number-next.ensures.next c.put_number-next.ensures.place c.put-else-n-lt10.ensures.place }

@@ -9,30 +9,30 @@ use Rattle.lists.proofs.ReadLaw.{read_lawful}
 use Rattle.lists.proofs.Room.{accepted_room}
 use Rattle.lists.proofs.reader.read_list.Goals as goal
 
-pub put-codes-requires : goal.put-codes-requires
-put-codes-requires c =
-    let b = c.args.file.now in let o = sym c.in-ok-check-opened.ensures in
+pub put_codes-requires : goal.put_codes-requires
+put_codes-requires c =
+    let b = c.args.file.now in let o = sym c.in_ok-check_opened.ensures in
     let lines : left line_end c.new-lines.result.parts.rest ≡ lines_of b = c.new-lines.ensures.all ∙ ap (λ (r : Result (Unit {0}) WholeFault). lines_handed r b) o in
-    let e = ap checked_lines (sym lines) ∙ sym c.in-ok-listing.ensures in
-    omega (arith, c.requires, accepted_room b c.in-ok-check-opened.field-0 c.in-ok-listing.listing o e, ap (λ (x : List (List ℕ)). length (flat (matrices_in x))) lines)
+    let e = ap checked_lines (sym lines) ∙ sym c.in_ok-listing.ensures in
+    omega (arith, c.requires, accepted_room b c.in_ok-check_opened.field-0 c.in_ok-listing.listing o e, ap (λ (x : List (List ℕ)). length (flat (matrices_in x))) lines)
 
 pub returns : goal.returns
 returns c =
     let b = c.args.file.now in let p = c.args.place.now in
-    let a : Ok c.in-ok-listing.listing ≡ read_answer (reading b) = search rules in
-    let q : c.put-codes.new.place ≡ read_place (reading b) p = search rules in
-    record { answer = a; place = q; law = read_lawful b p c.put-codes.new.place (Ok c.in-ok-listing.listing) a q }
+    let a : Ok c.in_ok-listing.listing ≡ read_answer (reading b) = search rules in
+    let q : c.put_codes.new.place ≡ read_place (reading b) p = search rules in
+    record { answer = a; place = q; law = read_lawful b p c.put_codes.new.place (Ok c.in_ok-listing.listing) a q }
 
-pub returns-in-err-check-opened : goal.returns-in-err-check-opened
-returns-in-err-check-opened c =
+pub returns-in_err-check_opened : goal.returns-in_err-check_opened
+returns-in_err-check_opened c =
     let b = c.args.file.now in let p = c.args.place.now in
-    let a : c.from-residual.result ≡ read_answer (reading b) = search rules in
+    let a : c.from_residual.result ≡ read_answer (reading b) = search rules in
     let q : p ≡ read_place (reading b) p = search rules in
-    record { answer = a; place = q; law = read_lawful b p p c.from-residual.result a q }
+    record { answer = a; place = q; law = read_lawful b p p c.from_residual.result a q }
 
-pub returns-in-err-listing : goal.returns-in-err-listing
-returns-in-err-listing c =
+pub returns-in_err-listing : goal.returns-in_err-listing
+returns-in_err-listing c =
     let b = c.args.file.now in let p = c.args.place.now in
-    let a : c.from-residual-in-err-listing.result ≡ read_answer (reading b) = search rules in
+    let a : c.from_residual-in_err-listing.result ≡ read_answer (reading b) = search rules in
     let q : p ≡ read_place (reading b) p = search rules in
-    record { answer = a; place = q; law = read_lawful b p p c.from-residual-in-err-listing.result a q }
+    record { answer = a; place = q; law = read_lawful b p p c.from_residual-in_err-listing.result a q }

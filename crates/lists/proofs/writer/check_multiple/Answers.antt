@@ -6,5 +6,5 @@ use Rattle.lists.proofs.writer.check_multiple.Goals as goal
 pub cells-requires : goal.cells-requires
 cells-requires c = size_greatest c.args.header.now.size c.requires
 
-pub nonzero-rem-codes : goal.nonzero-rem-codes
-nonzero-rem-codes c = omega (arith, c.cells.ensures.value, cells_some c.args.header.now c.requires)
+pub nonzero_rem-codes : goal.nonzero_rem-codes
+nonzero_rem-codes c = omega (arith, c.cells.ensures.value, cells_some c.args.header.now c.requires)

@@ -16,44 +16,44 @@ pub cells-k-requires : goal.cells-k-requires
 cells-k-requires c =
     size_greatest c.args.header.now.size (list_ok c.args.header.now c.args.codes.now c.args.size (sym c.requires.accepted)).0.size
 
-pub nonzero-div-count : goal.nonzero-div-count
-nonzero-div-count c =
+pub nonzero_div-count : goal.nonzero_div-count
+nonzero_div-count c =
     let v = list_ok c.args.header.now c.args.codes.now c.args.size (sym c.requires.accepted) in
     omega (arith, c.cells-k.ensures.value, cells_some c.args.header.now v.0.size)
 
-pub put-line-matrices-at-requires : goal.put-line-matrices-at-requires
-put-line-matrices-at-requires c =
+pub put_line-matrices_at-requires : goal.put_line-matrices_at-requires
+put_line-matrices_at-requires c =
     let h = c.args.header.now in let cs = c.args.codes.now in
     omega (arith, (list_ok h cs c.args.size (sym c.requires.accepted)).1, text_parts_length h cs c.cells-k.result c.cells-k.ensures.value, c.requires.room)
 
-pub put-matrices-end-at-requires : goal.put-matrices-end-at-requires
-put-matrices-end-at-requires c =
+pub put_matrices-end_at-requires : goal.put_matrices-end_at-requires
+put_matrices-end_at-requires c =
     let h = c.args.header.now in let cs = c.args.codes.now in let e = c.cells-k.ensures.value in
     let v = list_ok h cs c.args.size (sym c.requires.accepted) in
     record {
       whole = count_times c.cells-k.result cs (ap (λ (k : ℕ). length cs % k) e ∙ v.0.multiple);
-      room = omega (arith, v.1, text_parts_length h cs c.cells-k.result e, c.requires.room, c.put-line-matrices-at.ensures.next, c.put-line-matrices-at.auto.place);
+      room = omega (arith, v.1, text_parts_length h cs c.cells-k.result e, c.requires.room, c.put_line-matrices_at.ensures.next, c.put_line-matrices_at.auto.place);
     }
 
-pub overflow-cast-count : goal.overflow-cast-count
-overflow-cast-count c =
+pub overflow_cast-count : goal.overflow_cast-count
+overflow_cast-count c =
     let h = c.args.header.now in let cs = c.args.codes.now in
     let v = list_ok h cs c.args.size (sym c.requires.accepted) in
     omega (arith, div-le_self (length cs) c.cells-k.result, codes_short h cs v.0.multiple, v.0.short)
 
-pub put-line-requires : goal.put-line-requires
-put-line-requires c =
+pub put_line-requires : goal.put_line-requires
+put_line-requires c =
     let h = c.args.header.now in let cs = c.args.codes.now in
-    omega (arith, (list_ok h cs c.args.size (sym c.requires.accepted)).1, text_parts_length h cs c.cells-k.result c.cells-k.ensures.value, c.requires.room, c.put-line-matrices-at.ensures.next, c.put-line-matrices-at.auto.place, c.put-matrices-end-at.ensures.next, c.put-matrices-end-at.auto.place)
+    omega (arith, (list_ok h cs c.args.size (sym c.requires.accepted)).1, text_parts_length h cs c.cells-k.result c.cells-k.ensures.value, c.requires.room, c.put_line-matrices_at.ensures.next, c.put_line-matrices_at.auto.place, c.put_matrices-end_at.ensures.next, c.put_matrices-end_at.auto.place)
 
 pub returns : goal.returns
 returns c =
     let h = c.args.header.now in let cs = c.args.codes.now in let p = c.args.place.now in let k = c.cells-k.result in let e = c.cells-k.ensures.value in
     let v = list_ok h cs c.args.size (sym c.requires.accepted) in
-    let a = c.put-line-matrices-at in let b = c.put-matrices-end-at in
+    let a = c.put_line-matrices_at in let b = c.put_matrices-end_at in
     let first = a.ensures.place ∙ ap (λ (x : ℕ). written 0 (line_text (start_letter ∷ comma ∷ x ∷ []) (h.size ∷ h.bound ∷ [])) p) c.byte.ensures in
-    let place : c.put-line.new.place ≡ written 0 (text h cs) p =
-    put_three p _ _ _ 0 a.result b.result (start_part h cs k e) (matrices_part h cs k e) (end_part h cs k e) a.ensures.next b.ensures.next (omega (arith, v.1, text_parts_length h cs k e, c.requires.room, a.ensures.next, b.ensures.next)) first b.ensures.place c.put-line.ensures.place
+    let place : c.put_line.new.place ≡ written 0 (text h cs) p =
+    put_three p _ _ _ 0 a.result b.result (start_part h cs k e) (matrices_part h cs k e) (end_part h cs k e) a.ensures.next b.ensures.next (omega (arith, v.1, text_parts_length h cs k e, c.requires.room, a.ensures.next, b.ensures.next)) first b.ensures.place c.put_line.ensures.place
     ∙ ap (λ (t : List ℕ). written 0 t p) (sym (text_parts h cs k e)) in
     record {
       place = place;

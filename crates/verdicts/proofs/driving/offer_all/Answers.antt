@@ -17,19 +17,19 @@ loop-n-init g c =
 
 pub part-requires : goal.part-requires
 part-requires g c =
-    let room = matrix_room c.loop-n.-n c.cells-cells.result (length c.args.list.now) c.loop-n-test.true in
-    let from : c.loop-n.from ≡ c.loop-n.-n * c.cells-cells.result = c.loop-n.invariant.0 ∙ ap (λ (k : ℕ). c.loop-n.-n * k) (sym c.cells-cells.ensures.product) in
-    omega (arith, room, from, add-mul c.loop-n.-n 1 c.cells-cells.result, one-mul c.cells-cells.result)
+    let room = matrix_room c.loop-n._n c.cells-cells.result (length c.args.list.now) c.loop-n-test.true in
+    let from : c.loop-n.from ≡ c.loop-n._n * c.cells-cells.result = c.loop-n.invariant.0 ∙ ap (λ (k : ℕ). c.loop-n._n * k) (sym c.cells-cells.ensures.product) in
+    omega (arith, room, from, add-mul c.loop-n._n 1 c.cells-cells.result, one-mul c.cells-cells.result)
 
 pub takes-requires : goal.takes-requires
 takes-requires g c =
     let q = g.F.Ring.size in
     let list = c.args.list.now in
     let k = c.cells-cells.result in
-    let room = matrix_room c.loop-n.-n k (length list) c.loop-n-test.true in
-    let from : c.loop-n.from ≡ c.loop-n.-n * k = c.loop-n.invariant.0 ∙ ap (λ (x : ℕ). c.loop-n.-n * x) (sym c.cells-cells.ensures.product) in
+    let room = matrix_room c.loop-n._n k (length list) c.loop-n-test.true in
+    let from : c.loop-n.from ≡ c.loop-n._n * k = c.loop-n.invariant.0 ∙ ap (λ (x : ℕ). c.loop-n._n * x) (sym c.cells-cells.ensures.product) in
     let long : length (take k (drop c.loop-n.from list)) ≡ k =
-    omega (arith, length-take k (drop c.loop-n.from list), length-drop c.loop-n.from list, room, from, add-mul c.loop-n.-n 1 k, one-mul k) in
+    omega (arith, length-take k (drop c.loop-n.from list), length-drop c.loop-n.from list, room, from, add-mul c.loop-n._n 1 k, one-mul k) in
     record {
       length = ap length c.part.ensures ∙ long ∙ c.cells-cells.ensures.product ∙ ap (λ (x : ℕ). x * x) (sym c.loop-n.invariant.3);
       codes = ap (all_codes q) c.part.ensures ∙ codes_taken q k (drop c.loop-n.from list) (codes_dropped q c.loop-n.from list c.requires.codes);
@@ -40,7 +40,7 @@ returns-then-not-takes g c =
     let N = c.args.size in
     let run = c.args.run.now in
     let list = c.args.list.now in
-    let n = c.loop-n.-n in
+    let n = c.loop-n._n in
     let count = length list / c.cells-cells.result in
     let a = reading g.F.Ring.size (g.F.Ring.means run.tie.field) (g.F.Field.inverse run.tie.field) in
     let h = c.loop-n.invariant in
@@ -55,18 +55,18 @@ returns-then-not-takes g c =
       bound = c.if-not-takes.ensures.bound ∙ h.4;
     }
 
-pub overflow-add-from : goal.overflow-add-from
-overflow-add-from g c =
-    let room = matrix_room c.loop-n.-n c.cells-cells.result (length c.args.list.now) c.loop-n-test.true in
-    let from : c.loop-n.from ≡ c.loop-n.-n * c.cells-cells.result = c.loop-n.invariant.0 ∙ ap (λ (k : ℕ). c.loop-n.-n * k) (sym c.cells-cells.ensures.product) in
-    omega (arith, room, from, add-mul c.loop-n.-n 1 c.cells-cells.result, one-mul c.cells-cells.result)
+pub overflow_add-from : goal.overflow_add-from
+overflow_add-from g c =
+    let room = matrix_room c.loop-n._n c.cells-cells.result (length c.args.list.now) c.loop-n-test.true in
+    let from : c.loop-n.from ≡ c.loop-n._n * c.cells-cells.result = c.loop-n.invariant.0 ∙ ap (λ (k : ℕ). c.loop-n._n * k) (sym c.cells-cells.ensures.product) in
+    omega (arith, room, from, add-mul c.loop-n._n 1 c.cells-cells.result, one-mul c.cells-cells.result)
 
 pub loop-n-preserved : goal.loop-n-preserved
 loop-n-preserved g c =
     let N = c.args.size in
     let run = c.args.run.now in
     let list = c.args.list.now in
-    let n = c.loop-n.-n in
+    let n = c.loop-n._n in
     let count = length list / c.cells-cells.result in
     let a = reading g.F.Ring.size (g.F.Ring.means run.tie.field) (g.F.Field.inverse run.tie.field) in
     let h = c.loop-n.invariant in
@@ -86,7 +86,7 @@ returns g c =
     let N = c.args.size in
     let run = c.args.run.now in
     let list = c.args.list.now in
-    let n = c.loop-n.-n in
+    let n = c.loop-n._n in
     let count = length list / c.cells-cells.result in
     let a = reading g.F.Ring.size (g.F.Ring.means run.tie.field) (g.F.Field.inverse run.tie.field) in
     let h = c.loop-n.invariant in

@@ -6,8 +6,8 @@ use Rattle.verdicts.proofs.AcceptedLists.{accepted, whole_matrices}
 use Rattle.verdicts.proofs.Entitled.{taken_within}
 use Rattle.verdicts.proofs.judging.verdict_of.Goals as goal
 
-pub first-misfit-requires : goal.first-misfit-requires
-first-misfit-requires g c =
+pub first_misfit-requires : goal.first_misfit-requires
+first_misfit-requires g c =
     let q = g.F.Ring.size in
     let m = g.F.Ring.means c.args.field in
     let inv = g.F.Field.inverse c.args.field in

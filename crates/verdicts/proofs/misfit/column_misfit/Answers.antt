@@ -28,16 +28,16 @@ generator-column-requires g c =
           ∙ column_given N _ c.args.j _ (N * (c.args.degree + 1)) (settled_not_short _ c.requires.settled) c.requires.column (ap (λ (d : ℕ). N * (d + 1)) c.requires.degree);
     }
 
-pub overflow-sub-left-out : goal.overflow-sub-left-out
-overflow-sub-left-out g c =
+pub overflow_sub-left_out : goal.overflow_sub-left_out
+overflow_sub-left_out g c =
     let q = g.F.Ring.size in
     let m = g.F.Ring.means c.args.field in
     let inv = g.F.Field.inverse c.args.field in
     let low = degree_within_count q m inv (g.met.F.Ring.lawful c.args.field) (g.met.F.Field.inverts c.args.field) c.args.size (recorded c.args.run.now.state) c.args.j c.requires.column in
     omega (arith, c.requires.degree, c.requires.taken, low)
 
-pub overflow-mul-left-out : goal.overflow-mul-left-out
-overflow-mul-left-out g c =
+pub overflow_mul-left_out : goal.overflow_mul-left_out
+overflow_mul-left_out g c =
     let L = length c.args.list.now in
     let within : c.args.taken - c.args.degree ≤ L / c.cells.result = subst (λ (k : ℕ). c.args.taken - c.args.degree ≤ L / k) (sym c.cells.ensures.product) (omega (arith, c.requires.longer)) in
     omega (arith, mul-le-mul_right c.cells.result within, div-mul-le_self L c.cells.result)
@@ -74,7 +74,7 @@ returns-in-Ok g c =
     let low : c.args.degree ≤ c.args.taken = omega (arith, c.requires.degree, c.requires.taken, degree_within_count q m inv laws inverts N taken j c.requires.column) in
     let within : s ≤ count_of N list = omega (arith, c.requires.longer) in
     let left = window_count q m inv laws inverts N (count_of N list) s taken list j c.requires.some c.requires.small (omega (arith, c.requires.degree, c.requires.low)) whole within c.requires.codes in
-    c.place-of.ensures
+    c.place_of.ensures
     ∙ first_is _ c.args.taken (count_of N list - c.args.taken) _
     (misfit_from_told q m inv N s taken list j c.args.taken (count_of N list) (omega (arith, c.requires.degree)) (omega (arith, left, within)) c.in-Ok.failure told)
 

@@ -16,8 +16,8 @@ pub loop-j-init : goal.loop-j-init
 loop-j-init g c =
     misfit_none (reading g.F.Ring.size (g.F.Ring.means c.args.field) (g.F.Field.inverse c.args.field)) c.args.size (recorded c.args.run.now.state) c.args.list.now
 
-pub column-misfit-next-requires : goal.column-misfit-next-requires
-column-misfit-next-requires g c =
+pub column_misfit-next-requires : goal.column_misfit-next-requires
+column_misfit-next-requires g c =
     let q = g.F.Ring.size in
     let N = c.args.size in
     let run = c.args.run.now in
@@ -54,6 +54,6 @@ loop-j-preserved g c =
     let a = reading q (g.F.Ring.means c.args.field) (g.F.Field.inverse c.args.field) in
     let taken : c.standing-standing.result.taken ≡ count_of N (recorded run.state) =
     ap (λ r. r.taken) c.standing-standing.ensures.standing ∙ (λ i. count_of (c.requires.size i) (recorded run.state)) in
-    c.earlier-of-misfit.ensures
-    ∙ ap₂ earlier c.loop-j.invariant (c.column-misfit-next.ensures ∙ ap (λ (n : ℕ). first (misfits a N (recorded run.state) c.args.list.now c.loop-j.j) n (count_of N c.args.list.now - n)) taken)
+    c.earlier_of-misfit.ensures
+    ∙ ap₂ earlier c.loop-j.invariant (c.column_misfit-next.ensures ∙ ap (λ (n : ℕ). first (misfits a N (recorded run.state) c.args.list.now c.loop-j.j) n (count_of N c.args.list.now - n)) taken)
     ∙ misfit_more a N (recorded run.state) c.args.list.now c.loop-j.j
