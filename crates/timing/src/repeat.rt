@@ -7,11 +7,11 @@ use runs::standing::Standing;
 
 fn reason(refusal: Refusal) -> anyhow::Error {
     match refusal {
-        Refusal::Size => "the size is not 1 to 4".into(),
-        Refusal::Bound => "the bound is above 64".into(),
-        Refusal::Length => "the last matrix is not whole".into(),
-        Refusal::Code => "an entry is not a code".into(),
-        _ => "refused".into(),
+        Refusal::Size => anyhow!("the size is not 1 to 4"),
+        Refusal::Bound => anyhow!("the bound is above 64"),
+        Refusal::Length => anyhow!("the last matrix is not whole"),
+        Refusal::Code => anyhow!("an entry is not a code"),
+        _ => anyhow!("refused"),
     }
 }
 

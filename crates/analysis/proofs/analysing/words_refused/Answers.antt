@@ -17,6 +17,6 @@ before_words b e = by (letter_in (lines_handed (opened b) b)) refl e
 
 pub returns : goal.returns
 returns c = record {
-  fault = c.no-field.ensures;
-  law = subst (FirstFault (lines_of c.args.file.now)) (sym c.no-field.ensures) (before_words c.args.file.now c.requires);
+  fault = c.no_field.ensures;
+  law = subst (FirstFault (lines_of c.args.file.now)) (sym c.no_field.ensures) (before_words c.args.file.now c.requires);
 }

@@ -23,8 +23,8 @@ generator-codes-requires g c =
           ∙ column_given N _ c.args.j _ (N * (c.args.degree + 1)) c.requires.given c.requires.column (ap (λ (d : ℕ). N * (d + 1)) c.requires.degree);
     }
 
-pub add-line-requires : goal.add-line-requires
-add-line-requires g c =
+pub add_line-requires : goal.add_line-requires
+add_line-requires g c =
     let N = c.args.size in
     let taken = recorded c.args.run.now.state in
     let j = c.args.j in
@@ -48,6 +48,6 @@ returns g c =
     let line : line_text (column_letter ∷ comma ∷ (49 + j) ∷ []) c.generator-codes.result.now ≡ column_line a N taken j =
     ap (line_text (column_letter ∷ comma ∷ (49 + j) ∷ [])) codes ∙ sym (numbered_line j (column_after a N taken j) (omega (arith, c.requires.column, c.requires.small))) in
     record {
-      next = c.add-line.ensures.next ∙ ap (λ (t : List ℕ). c.args.at + length t) line;
-      place = c.add-line.ensures.place ∙ ap (λ (t : List ℕ). written c.args.at t c.args.place.now) line;
+      next = c.add_line.ensures.next ∙ ap (λ (t : List ℕ). c.args.at + length t) line;
+      place = c.add_line.ensures.place ∙ ap (λ (t : List ℕ). written c.args.at t c.args.place.now) line;
     }

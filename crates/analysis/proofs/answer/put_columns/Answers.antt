@@ -14,8 +14,8 @@ use Rattle.analysis.proofs.answer.put_columns.Goals as goal
 pub loop-j-init : goal.loop-j-init
 loop-j-init g c = (sym (add-zero c.args.at), sym (written_none c.args.at c.args.place.now), refl)
 
-pub put-column-next-requires : goal.put-column-next-requires
-put-column-next-requires g c =
+pub put_column-next-requires : goal.put_column-next-requires
+put_column-next-requires g c =
     let N = c.args.size in
     let r = c.args.run.now in
     let j = c.loop-j.j in
@@ -53,11 +53,11 @@ loop-j-preserved g c =
     let next : column_lines a N taken (j + 1) ≡ column_lines a N taken (suc j) = ap (column_lines a N taken) (add-one j) in
     let grown = column_lines_grow a N taken (suc j) N c.loop-j-test.true in
     let more = length-append s t in (
-      omega (arith, ap length next, more, c.put-column-next.ensures.next, c.loop-j.invariant.0),
-      c.put-column-next.ensures.place
+      omega (arith, ap length next, more, c.put_column-next.ensures.next, c.loop-j.invariant.0),
+      c.put_column-next.ensures.place
           ∙ put_on c.args.place.now c.loop-j.place c.args.at c.loop-j.next s t c.loop-j.invariant.0 (omega (arith, c.loop-j.invariant.0, c.requires.room, grown, more)) c.loop-j.invariant.1
           ∙ ap (λ (x : List ℕ). written c.args.at x c.args.place.now) (sym next),
-      c.put-column-next.auto.place ∙ c.loop-j.invariant.2,
+      c.put_column-next.auto.place ∙ c.loop-j.invariant.2,
     )
 
 pub returns : goal.returns

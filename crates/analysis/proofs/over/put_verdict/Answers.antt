@@ -12,8 +12,8 @@ use Rattle.analysis.specs.Answer.{lines_under, ColumnsGiven}
 use Rattle.analysis.proofs.Given.{columns_given}
 use Rattle.analysis.proofs.over.put_verdict.Goals as goal
 
-pub answer-is-short-requires : goal.answer-is-short-requires
-answer-is-short-requires g c =
+pub answer_is_short-requires : goal.answer_is_short-requires
+answer_is_short-requires g c =
     let q = g.F.Ring.size in
     let m = g.F.Ring.means c.args.field in
     let inv = g.F.Field.inverse c.args.field in
@@ -33,8 +33,8 @@ answer-is-short-requires g c =
       bytes = c.requires.bytes;
     }
 
-pub put-answer-requires : goal.put-answer-requires
-put-answer-requires g c =
+pub put_answer-requires : goal.put_answer-requires
+put_answer-requires g c =
     let q = g.F.Ring.size in
     let m = g.F.Ring.means c.args.field in
     let inv = g.F.Field.inverse c.args.field in
@@ -51,7 +51,7 @@ put-answer-requires g c =
       some = h.some;
       small = h.small;
       given = transport (λ i. ColumnsGiven (phase_after a N (sym c.requires.bound i) (sym c.requires.taken i)) (sym c.requires.verdict i)) (columns_given a N taken list c.requires.few within (phase_after a N bound taken));
-      short = c.answer-is-short.ensures;
+      short = c.answer_is_short.ensures;
       room = c.requires.room;
     }
 
@@ -59,7 +59,7 @@ pub returns : goal.returns
 returns g c =
     let a = reading g.F.Ring.size (g.F.Ring.means c.args.field) (g.F.Field.inverse c.args.field) in
     record {
-      short = transport (λ i. length (lines_under a c.args.size (c.requires.taken i) (c.requires.verdict i)) ≤ least_answer) c.answer-is-short.ensures;
-      length = c.put-answer.ensures.length ∙ (λ i. length (lines_under a c.args.size (c.requires.taken i) (c.requires.verdict i)));
-      place = c.put-answer.ensures.place ∙ (λ i. written 0 (lines_under a c.args.size (c.requires.taken i) (c.requires.verdict i)) c.args.place.now);
+      short = transport (λ i. length (lines_under a c.args.size (c.requires.taken i) (c.requires.verdict i)) ≤ least_answer) c.answer_is_short.ensures;
+      length = c.put_answer.ensures.length ∙ (λ i. length (lines_under a c.args.size (c.requires.taken i) (c.requires.verdict i)));
+      place = c.put_answer.ensures.place ∙ (λ i. written 0 (lines_under a c.args.size (c.requires.taken i) (c.requires.verdict i)) c.args.place.now);
     }
