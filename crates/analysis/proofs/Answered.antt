@@ -1,19 +1,15 @@
 -- What is written answers the list that the file holds.
-use Rattle.std.proofs.Common.{◌≡◌, ℕ, ◌*◌, true, false, List, [], ◌∷◌, length, get_or, take, Some, None, Ok, Err, Option, Result, sym, refl, ap, ◌∙◌, subst, true≢false}
+use Rattle.std.proofs.Common.{◌≡◌, ℕ, true, false, List, length, take, Some, None, Ok, Option, Result, sym, refl, ap, ◌∙◌, subst, true≢false}
 use Rattle.rings.specs.Arithmetic.{Arithmetic}
 use Rattle.lists.specs.Contents.{Contents, reading}
-use Rattle.lists.specs.Faults.{found}
-use Rattle.lists.specs.Places.{written}
 use Rattle.lists.specs.declared.fault.FileFault.{FileFault}
-use Rattle.lists.specs.declared.fault.FileFault.TheVariants.{InLine}
-use Rattle.lists.specs.declared.fault.LineFault.TheVariants.{Ring}
 use Rattle.lists.specs.declared.letter.RingLetter.{RingLetter}
 use Rattle.lists.specs.declared.letter.RingLetter.TheVariants.{B, P, Y, W}
 use Rattle.lists.proofs.Writing.{take_written}
 use Rattle.analysis.specs.Analyse.{answer_length, answer_over, answer_place, names_words}
 use Rattle.analysis.specs.Answer.{answer_text}
 use Rattle.analysis.specs.Fields.{arithmetic_of}
-use Rattle.analysis.specs.Laws.{Answers, Entitled, LawfulAnswer}
+use Rattle.analysis.specs.Laws.{Entitled, LawfulAnswer}
 
 some_none : {a : Arithmetic} → Some a ≡ None → ⊥
 some_none h = true≢false (ap (λ (o : Option Arithmetic). elim o [ Some _ ↦ true | None ↦ false ]) h)

@@ -1,7 +1,7 @@
 -- The degrees of a run are small.
-use Rattle.std.proofs.Common.{◌≡◌, ℕ, zero, suc, ◌+◌, ◌*◌, ◌<◌, ◌≤◌, Bool, true, false, cond, ltb, List, [], ◌∷◌, get_or, refl, mul-le-mul, arith}
+use Rattle.std.proofs.Common.{◌≡◌, ℕ, zero, suc, ◌+◌, ◌<◌, ◌≤◌, Bool, true, false, cond, ltb, List, get_or, refl, mul-le-mul, arith}
 use Rattle.rings.specs.Arithmetic.{Arithmetic}
-use Rattle.recurrences.specs.Degrees.{total, greatest}
+use Rattle.recurrences.specs.Degrees.{total}
 use Rattle.recurrences.proofs.Totals.{greatest_is, greatest_total}
 use Rattle.std.proofs.lemmas.Bool.{ltb-true}
 use Rattle.runs.specs.Promise.{Promise}

@@ -1,11 +1,11 @@
 -- Under which verdicts columns are given.
-use Rattle.std.proofs.Common.{◌≡◌, ℕ, ◌+◌, ◌-◌, ◌*◌, ◌/◌, ◌^◌, ◌<◌, ◌≤◌, true, false, ◌≢◌, List, length, Some, None, Option, sym, refl, ap, ◌∙◌, div-le_self, arith}
+use Rattle.std.proofs.Common.{◌≡◌, ℕ, ◌-◌, ◌*◌, ◌≤◌, true, false, ◌≢◌, List, length, Some, None, Option, sym, refl, ap, ◌∙◌, div-le_self, arith}
 use mathlib.Core.Bool.{false≢true}
 use Rattle.rings.specs.Arithmetic.{Arithmetic}
 use Rattle.recurrences.specs.declared.phase.Phase.{Phase}
 use Rattle.recurrences.specs.declared.phase.Phase.TheVariants.{Short, Running, Settled}
 use Rattle.recurrences.proofs.FirstFailure.{First, first_tells}
-use Rattle.runs.specs.Standings.{count_of, phase_after}
+use Rattle.runs.specs.Standings.{count_of}
 use Rattle.verdicts.specs.Misfits.{first_misfit, misfits}
 use Rattle.verdicts.specs.Searches.{some_below}
 use Rattle.verdicts.specs.Verdicts.{verdict_by}

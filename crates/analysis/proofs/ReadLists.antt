@@ -1,24 +1,20 @@
 -- The list that a file holds.
-use Rattle.std.proofs.Common.{◌≡◌, ℕ, ◌*◌, ◌%◌, ◌≤◌, true, cond, eqb, ltb, List, [], ◌∷◌, length, get_or, Some, None, Ok, Err, Option, Result, sym, refl, ap, ◌∙◌, subst}
+use Rattle.std.proofs.Common.{◌≡◌, ℕ, ◌*◌, ◌%◌, ◌≤◌, cond, eqb, ltb, List, length, Some, None, Ok, Err, Option, Result, sym, refl, ap, ◌∙◌, subst}
 use Rattle.std.proofs.lemmas.Bool.{cond-true, cond-false, eq-eqb, le-ltb}
 use Rattle.recurrences.specs.Codes.{all_codes}
 use Rattle.recurrences.specs.declared.refusal.Refusal.{Refusal}
 use Rattle.recurrences.specs.declared.refusal.Refusal.TheVariants.{Length, Code}
-use Rattle.lists.specs.Bytes.{comma}
 use Rattle.lists.specs.Contents.{Contents, codes_of, reading}
 use Rattle.lists.specs.FileChecks.{checked_file, letter_in, lines_handed, lines_of, opened}
-use Rattle.lists.specs.Kinds.{by_kind}
 use Rattle.lists.specs.Laws.{WrittenAs, list_of}
 use Rattle.lists.specs.Limits.{least_place}
 use Rattle.lists.specs.Read.{read_answer}
-use Rattle.lists.specs.Rings.{letter_of, size_of}
-use Rattle.lists.specs.Split.{first, split}
+use Rattle.lists.specs.Rings.{size_of}
 use Rattle.lists.specs.Text.{cells}
 use Rattle.lists.specs.declared.fault.FileFault.{FileFault}
 use Rattle.lists.specs.declared.fault.WholeFault.{WholeFault}
 use Rattle.lists.specs.declared.header.Header.{Header}
 use Rattle.lists.specs.declared.header.Listing.{Listing}
-use Rattle.lists.specs.declared.letter.RingLetter.{RingLetter}
 use Rattle.lists.proofs.Accepted.{lines_ok}
 use Rattle.lists.proofs.FirstLetters.{letter_from}
 use Rattle.lists.proofs.Headers.{size_least, size_greatest}

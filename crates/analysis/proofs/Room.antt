@@ -1,5 +1,5 @@
 -- Every answer goes into its place.
-use Rattle.std.proofs.Common.{◌≡◌, ℕ, zero, suc, ◌+◌, ◌*◌, ◌^◌, ◌<◌, ◌≤◌, true, false, ltb, ◌≢◌, List, [], ◌∷◌, ◌++◌, length, decimal, sym, refl, ap, ◌∙◌, subst, true≢false, mul-le-mul, arith, length-append}
+use Rattle.std.proofs.Common.{◌≡◌, ℕ, zero, suc, ◌+◌, ◌*◌, ◌^◌, ◌<◌, ◌≤◌, true, ltb, ◌≢◌, List, [], ◌∷◌, length, decimal, sym, refl, ap, subst, mul-le-mul, arith, length-append}
 use native.Mathlib.Decide.{dec_le}
 use Rattle.std.proofs.lemmas.Fmt.{length-decimal-le}
 use Rattle.std.proofs.lemmas.Bool.{and_parts, and_from, ltb-true, lt-ltb}
@@ -16,7 +16,7 @@ use Rattle.runs.specs.Promise.{Promise}
 use Rattle.runs.specs.Standings.{count_of, columns_after, column_after, phase_after}
 use Rattle.runs.proofs.CodesAt.{all_codes_from}
 use Rattle.lists.specs.Bytes.{comma}
-use Rattle.lists.specs.LineText.{commaed, line_text}
+use Rattle.lists.specs.LineText.{commaed}
 use Rattle.lists.proofs.Streamed.{line_length}
 use Rattle.verdicts.specs.declared.verdict.Verdict.{Verdict}
 use Rattle.verdicts.specs.declared.verdict.Verdict.TheVariants.{Unsettled, Generated, Misfit, Insufficient}

@@ -2,7 +2,7 @@
 use Rattle.std.specs.Prelude.{ℕ, Bool, true, false, cond, List, length, Some, None, Ok, Err, Option, Result, nat_lt}
 use Rattle.rings.specs.Arithmetic.{Arithmetic}
 use Rattle.lists.specs.Checks.{then}
-use Rattle.lists.specs.Contents.{Contents, reading}
+use Rattle.lists.specs.Contents.{reading}
 use Rattle.lists.specs.Faults.{line_refused}
 use Rattle.lists.specs.FileChecks.{letter_in, lines_handed, opened}
 use Rattle.lists.specs.Limits.{greatest_length}

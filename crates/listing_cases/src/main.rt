@@ -15,13 +15,13 @@ impl Calls for ListCalls {
     fn carry_out(&mut self, call: &Said, came: &mut Values) -> &'static str {
         let words = call.words();
         let given = &call.values;
-        if words == b"read \"\"" {
+        if words == b"read \"\"".as_slice() {
             read_into(given, 16384, came)
-        } else if words == b"read \"\" place #" {
+        } else if words == b"read \"\" place #".as_slice() {
             read_into(given, given.numbers[1], came)
-        } else if words == b"write @ size # bound # codes [] place #" {
+        } else if words == b"write @ size # bound # codes [] place #".as_slice() {
             write_into(given, came)
-        } else if words == b"lines \"\"" {
+        } else if words == b"lines \"\"".as_slice() {
             lines(given, came)
         } else {
             NOT_UNDERSTOOD

@@ -1,5 +1,5 @@
 -- Lines joined with their ends.
-use Rattle.std.proofs.Common.{◌≡◌, ℕ, ◌+◌, List, [], ◌∷◌, ◌++◌, map, sym, refl, ap, ◌∙◌, append_assoc}
+use Rattle.std.proofs.Common.{◌≡◌, ℕ, List, [], ◌∷◌, ◌++◌, map, sym, refl, ap, ◌∙◌, append_assoc}
 use Rattle.lists.specs.Bytes.{line_end, comma}
 use Rattle.lists.specs.Split.{join}
 use Rattle.lists.specs.Text.{header_fields, matrix_fields, end_fields, body_fields, closed}

@@ -1,5 +1,5 @@
 -- A run that took each matrix while it was running keeps the promise.
-use Rattle.std.proofs.Common.{◌≡◌, ℕ, suc, ◌+◌, ◌*◌, ◌/◌, ◌<◌, ◌≤◌, cond, ltb, List, ◌++◌, length, get_or, Option, sym, ap, ◌∙◌, mul-pos, le-div_iff_mul-le, div-mul-le_self, add-one, arith, length-append}
+use Rattle.std.proofs.Common.{◌≡◌, ℕ, ◌+◌, ◌*◌, ◌/◌, ◌<◌, ◌≤◌, cond, ltb, List, ◌++◌, length, Option, sym, ap, ◌∙◌, mul-pos, le-div_iff_mul-le, div-mul-le_self, add-one, arith, length-append}
 use Rattle.std.proofs.lemmas.List.{get_or_append_left}
 use Rattle.rings.specs.Meaning.{Meaning, Laws, Inverse}
 use Rattle.rings.specs.Arithmetic.{reading}

@@ -1,27 +1,25 @@
 -- Where a run stands, from its tables: they give the columns and the phase after the matrices taken, and the promise.
-use Rattle.std.proofs.Common.{◌≡◌, ℕ, zero, suc, ◌+◌, ◌*◌, ◌<◌, ◌≤◌, min, max, Bool, true, false, cond, ltb, List, [], ◌∷◌, get_or, Option, sym, refl, ap, ◌∙◌, subst, ap₂, arith, below_more}
+use Rattle.std.proofs.Common.{◌≡◌, ℕ, zero, suc, ◌+◌, ◌*◌, ◌<◌, ◌≤◌, min, max, Bool, true, false, cond, ltb, [], ◌∷◌, get_or, Option, refl, ap, ◌∙◌, ap₂, arith, below_more}
 use mathlib.Core.Bool.{false≢true}
-use Rattle.std.proofs.lemmas.Bool.{cond_both, ltb-true}
+use Rattle.std.proofs.lemmas.Bool.{ltb-true}
 use Rattle.rings.specs.Meaning.{Meaning, Laws, Inverse}
 use Rattle.rings.specs.Arithmetic.{Arithmetic, reading}
 use Rattle.recurrences.specs.declared.phase.Phase.{Phase}
 use Rattle.recurrences.specs.declared.phase.Phase.TheVariants.{Short, Running, Settled}
-use Rattle.recurrences.specs.Columns.{Columns}
-use Rattle.recurrences.specs.Degrees.{total, greatest, least}
-use Rattle.recurrences.specs.Phases.{phase, phase_at}
+use Rattle.recurrences.specs.Degrees.{greatest, least}
+use Rattle.recurrences.specs.Phases.{phase_at}
 use Rattle.recurrences.specs.Reading.{matrices_in}
 use Rattle.recurrences.specs.Run.{run}
 use Rattle.recurrences.proofs.Dependence.{run_same}
 use Rattle.recurrences.proofs.MidstepTheorems.{generator_degrees_are_at_most_count}
 use Rattle.recurrences.proofs.RunTheorems.{counts_are_bounded}
-use Rattle.recurrences.proofs.Totals.{total_cong}
 use Rattle.runs.specs.declared.tables.State.{State}
 use Rattle.runs.specs.Operations.{operations_of}
 use Rattle.runs.specs.Promise.{Promise}
 use Rattle.runs.specs.Ran.{RanIn, is_running}
 use Rattle.runs.specs.Recorded.{recorded}
 use Rattle.runs.specs.Sound.{Sound, run_of}
-use Rattle.runs.specs.Standings.{count_of, columns_after, phase_after, shown, standing_with}
+use Rattle.runs.specs.Standings.{count_of, columns_after, shown}
 use Rattle.runs.specs.Views.{matrices_of}
 use Rattle.runs.proofs.Promised.{promised}
 use Rattle.runs.proofs.Recording.{count_of_codes, entries_of_codes}

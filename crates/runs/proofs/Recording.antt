@@ -1,5 +1,5 @@
 -- The codes of the matrices taken hold these matrices, and one more matrix goes behind them.
-use Rattle.std.proofs.Common.{◌≡◌, ℕ, suc, ◌+◌, ◌*◌, ◌/◌, ◌%◌, ◌<◌, ◌≤◌, cond, ltb, List, [], ◌++◌, length, get_or, sym, ap, ◌∙◌, ap₂, mod-lt, mul_assoc, mul_comm, div-lt_iff_lt-mul, add-mul, mul-pos, one-mul, zero-mul, arith}
+use Rattle.std.proofs.Common.{◌≡◌, ℕ, ◌+◌, ◌*◌, ◌/◌, ◌%◌, ◌<◌, cond, ltb, List, [], ◌++◌, length, get_or, sym, ap, ◌∙◌, ap₂, mod-lt, mul_assoc, mul_comm, div-lt_iff_lt-mul, add-mul, mul-pos, one-mul, zero-mul, arith}
 use native.Mathlib.Nat.{mul-div_left, mod-add-div}
 use lib.Arith.{digits_div, digits_mod, digits_lt}
 use Rattle.std.proofs.lemmas.Bool.{cond-true, lt-ltb}

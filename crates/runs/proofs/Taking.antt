@@ -4,7 +4,6 @@ use mathlib.Core.Bool.{false≢true}
 use Rattle.std.proofs.lemmas.Bool.{cond-true, cond_both, lt-ltb, ltb-true}
 use Rattle.rings.specs.Arithmetic.{Arithmetic}
 use Rattle.recurrences.specs.Codes.{all_codes}
-use Rattle.recurrences.specs.declared.phase.Phase.{Phase}
 use Rattle.recurrences.specs.declared.phase.Phase.TheVariants.{Running}
 use Rattle.recurrences.specs.Columns.{Columns}
 use Rattle.recurrences.specs.Phases.{phase_at}

@@ -1,7 +1,6 @@
 use Rattle.std.proofs.Common.{◌≡◌, ℕ, List, Err, Result, sym, ap, ◌∙◌, subst, rules}
 use Rattle.lists.specs.Checks.{then}
 use Rattle.lists.specs.Contents.{Contents, reading}
-use Rattle.lists.specs.Read.{read_answer}
 use Rattle.lists.specs.declared.fault.FileFault.{FileFault}
 use Rattle.analysis.specs.Analyse.{answer_length, answer_over, answer_place, answer_to_list}
 use Rattle.analysis.specs.Fields.{arithmetic_of}

@@ -1,11 +1,10 @@
-use Rattle.std.proofs.Common.{◌≡◌, ℕ, ◌*◌, ◌≤◌, List, length, take, None, Ok, Result, sym, ap, ◌∙◌, subst, arith}
+use Rattle.std.proofs.Common.{◌≡◌, ℕ, ◌*◌, ◌≤◌, List, length, take, None, Result, sym, ap, ◌∙◌, subst, arith}
 use mathlib.Core.Path.{transport}
 use Rattle.lists.specs.Checks.{then}
 use Rattle.lists.specs.Contents.{Contents, reading}
 use Rattle.lists.specs.Laws.{WrittenAs}
 use Rattle.lists.specs.Rings.{size_of}
 use Rattle.lists.specs.declared.fault.FileFault.{FileFault}
-use Rattle.lists.specs.declared.header.Header.{Header}
 use Rattle.lists.specs.declared.header.Listing.{Listing}
 use Rattle.verdicts.specs.Refusals.{list_refusal}
 use Rattle.analysis.specs.Analyse.{answer_over, answer_length, answer_place, answer_to_list, names_words}

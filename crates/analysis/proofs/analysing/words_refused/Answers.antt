@@ -1,9 +1,8 @@
-use Rattle.std.proofs.Common.{◌≡◌, ℕ, true, false, List, Some, None, Option, sym, refl, subst}
+use Rattle.std.proofs.Common.{◌≡◌, ℕ, true, List, Some, None, Option, sym, refl, subst}
 use mathlib.Core.Bool.{false≢true}
 use Rattle.lists.specs.FileChecks.{letter_in, lines_handed, lines_of, opened}
 use Rattle.lists.specs.FirstFault.{Faultless, FirstFault}
 use Rattle.lists.specs.declared.letter.RingLetter.{RingLetter}
-use Rattle.lists.specs.declared.letter.RingLetter.TheVariants.{B, P, Y, W}
 use Rattle.lists.proofs.FirstLetters.{faultless_before_letter}
 use Rattle.analysis.specs.Analyse.{names_words}
 use Rattle.analysis.proofs.analysing.words_refused.Goals as goal

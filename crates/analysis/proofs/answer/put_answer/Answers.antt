@@ -1,11 +1,11 @@
-use Rattle.std.proofs.Common.{◌≡◌, ℕ, ◌+◌, ◌≤◌, List, [], ◌∷◌, ◌++◌, length, sym, ap, ◌∙◌, subst, append-nil, arith}
+use Rattle.std.proofs.Common.{◌≡◌, ℕ, ◌+◌, List, ◌++◌, length, sym, ap, ◌∙◌, subst, append-nil, arith}
 use Rattle.rings.specs.Arithmetic.{reading}
 use Rattle.runs.specs.Recorded.{recorded}
 use Rattle.runs.specs.Standings.{phase_after}
 use Rattle.lists.specs.Places.{written}
 use Rattle.lists.proofs.Writing.{put_on, put_three}
 use Rattle.verdicts.specs.declared.verdict.Verdict.{Verdict}
-use Rattle.verdicts.specs.declared.verdict.Verdict.TheVariants.{Unsettled, Generated, Misfit, Insufficient}
+use Rattle.verdicts.specs.declared.verdict.Verdict.TheVariants.{Misfit}
 use Rattle.analysis.specs.Answer.{column_lines, columns_under, degree_line, lines_under, misfit_line, ColumnsGiven}
 use Rattle.analysis.proofs.Texts.{lines_length}
 use Rattle.analysis.proofs.answer.put_answer.Goals as goal

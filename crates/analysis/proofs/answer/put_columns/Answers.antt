@@ -1,4 +1,4 @@
-use Rattle.std.proofs.Common.{◌≡◌, ℕ, suc, ◌+◌, ◌≤◌, List, length, get_or, sym, refl, ap, ◌∙◌, add-zero, add-one, arith, length-append}
+use Rattle.std.proofs.Common.{◌≡◌, ℕ, suc, ◌+◌, List, length, get_or, sym, refl, ap, ◌∙◌, add-zero, add-one, arith, length-append}
 use Rattle.rings.specs.Arithmetic.{reading}
 use Rattle.recurrences.specs.Degrees.{greatest, least, total}
 use Rattle.recurrences.proofs.Totals.{greatest_is, greatest_total}

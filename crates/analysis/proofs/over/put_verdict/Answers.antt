@@ -1,7 +1,6 @@
-use Rattle.std.proofs.Common.{◌≡◌, ℕ, ◌≤◌, List, length, sym, ap, ◌∙◌, subst}
+use Rattle.std.proofs.Common.{◌≤◌, length, sym, ◌∙◌}
 use mathlib.Core.Path.{transport}
 use Rattle.rings.specs.Arithmetic.{reading}
-use Rattle.runs.specs.Recorded.{recorded}
 use Rattle.runs.specs.Standings.{phase_after}
 use Rattle.verdicts.specs.Taking.{taken_of}
 use Rattle.verdicts.proofs.AcceptedLists.{accepted, whole_matrices}

@@ -1,6 +1,6 @@
 use Rattle.std.proofs.Common.{◌≡◌, ℕ, ◌/◌, [], ◌∷◌, length, ap, ◌∙◌, arith}
 use Rattle.lists.specs.LineText.{commaed}
-use Rattle.lists.specs.Text.{cells, count_of, text}
+use Rattle.lists.specs.Text.{count_of, text}
 use Rattle.lists.proofs.Listable.{cells_some, text_too_long, text_fits}
 use Rattle.lists.proofs.Streamed.{text_length, codes_short}
 use Rattle.lists.proofs.writer.text_length.Goals as goal

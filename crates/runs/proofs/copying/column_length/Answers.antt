@@ -1,4 +1,4 @@
-use Rattle.std.proofs.Common.{◌≡◌, ℕ, ◌+◌, ◌*◌, ◌≤◌, get_or, sym, ap, ◌∙◌, mul-le-mul, mul-le-mul_left, arith}
+use Rattle.std.proofs.Common.{ℕ, ◌+◌, ◌*◌, ◌≤◌, get_or, sym, ap, ◌∙◌, mul-le-mul, mul-le-mul_left, arith}
 use Rattle.rings.specs.Arithmetic.{reading}
 use Rattle.recurrences.specs.Columns.{Columns}
 use Rattle.runs.specs.Operations.{operations_of}

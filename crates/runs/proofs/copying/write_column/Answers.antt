@@ -1,4 +1,4 @@
-use Rattle.std.proofs.Common.{ℕ, length}
+use Rattle.std.proofs.Common.{length}
 use Rattle.runs.proofs.Written.{cut_listed}
 use Rattle.runs.proofs.copying.write_column.Goals as goal
 

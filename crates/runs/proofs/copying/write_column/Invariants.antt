@@ -1,4 +1,4 @@
-use Rattle.std.proofs.Common.{◌≡◌, ℕ, ◌/◌, ◌%◌, get_or}
+use Rattle.std.proofs.Common.{ℕ, ◌/◌, ◌%◌, get_or}
 use Rattle.runs.proofs.Cut.{Cut}
 use Rattle.runs.specs.Views.{column_of}
 use Rattle.runs.proofs.copying.write_column.Given as goal

@@ -1,13 +1,11 @@
-use Rattle.std.proofs.Common.{◌≡◌, ℕ, ◌+◌, ◌*◌, ◌/◌, ◌%◌, length, get_or, sym, ap, ◌∙◌}
+use Rattle.std.proofs.Common.{ℕ, ◌/◌, ◌%◌, length, sym, ap, ◌∙◌}
 use Rattle.rings.specs.Arithmetic.{reading}
 use Rattle.recurrences.specs.Columns.{Columns}
 use Rattle.recurrences.specs.Standing.{listed}
 use Rattle.recurrences.proofs.Listing.{listed_same}
 use Rattle.runs.specs.Operations.{operations_of}
 use Rattle.runs.specs.Recorded.{recorded}
-use Rattle.runs.specs.Sound.{run_of}
 use Rattle.runs.specs.Standings.{columns_after}
-use Rattle.runs.specs.Views.{column_of, no_column}
 use Rattle.runs.proofs.Recalled.{columns_recorded}
 use Rattle.runs.proofs.copying.write_generator.Goals as goal
 

@@ -1,4 +1,4 @@
-use Rattle.std.proofs.Common.{◌≡◌, ℕ, max, get_or, ap, ◌∙◌}
+use Rattle.std.proofs.Common.{ℕ, max, get_or, ap, ◌∙◌}
 use Rattle.runs.proofs.DegreeLoops.{greatest_more}
 use Rattle.runs.proofs.degrees.greatest_of.Goals as goal
 

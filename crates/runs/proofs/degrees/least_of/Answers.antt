@@ -1,4 +1,4 @@
-use Rattle.std.proofs.Common.{◌≡◌, ℕ, min, get_or, ap, ◌∙◌, arith}
+use Rattle.std.proofs.Common.{ℕ, min, get_or, ap, ◌∙◌, arith}
 use Rattle.runs.proofs.DegreeLoops.{least_more}
 use Rattle.runs.proofs.degrees.least_of.Goals as goal
 

@@ -1,4 +1,4 @@
-use Rattle.std.proofs.Common.{◌≡◌, ℕ, ◌+◌, get_or, ap, ◌∙◌, arith}
+use Rattle.std.proofs.Common.{ℕ, ◌+◌, get_or, ap, ◌∙◌, arith}
 use Rattle.runs.proofs.DegreeLoops.{total_none, total_more}
 use Rattle.runs.proofs.degrees.total_of.Goals as goal
 

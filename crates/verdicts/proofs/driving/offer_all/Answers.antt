@@ -1,4 +1,4 @@
-use Rattle.std.proofs.Common.{◌≡◌, ℕ, ◌+◌, ◌-◌, ◌*◌, ◌/◌, true, false, ◌++◌, length, take, drop, sym, refl, ap, ◌∙◌, ap₂, add-mul, one-mul, zero-mul, arith, length-drop, length-take}
+use Rattle.std.proofs.Common.{◌≡◌, ℕ, ◌*◌, ◌/◌, true, false, ◌++◌, length, take, drop, sym, refl, ap, ◌∙◌, ap₂, add-mul, one-mul, zero-mul, arith, length-drop, length-take}
 use native.Mathlib.Nat.{sub-zero}
 use Rattle.recurrences.specs.Codes.{all_codes}
 use Rattle.rings.specs.Arithmetic.{reading}
