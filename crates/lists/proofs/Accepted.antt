@@ -1,6 +1,6 @@
 -- The lines of an accepted file are those that its list is written with.
 use Rattle.std.proofs.Common.{◌≡◌, ℕ, ◌+◌, ◌*◌, ◌<◌, ◌≤◌, eqb, List, [], ◌∷◌, length, get_or, drop, Some, None, Ok, decimal, Option, sym, refl, ap, ◌∙◌, subst, arith, length-append}
-use Rattle.std.specs.List.{AllByRecursion as All}
+use Rattle.std.specs.List.{AllByRecursion}
 use Rattle.std.proofs.lemmas.List.{length-map}
 use Rattle.std.proofs.lemmas.Bool.{eqb-true}
 use Rattle.lists.specs.Bytes.{line_end, comma, start_letter, matrix_letter, end_letter}
@@ -39,7 +39,7 @@ header_written line l h f =
     ∙ ap (λ (p : List ℕ). (start_letter ∷ []) ∷ (byte_of h.letter ∷ []) ∷ decimal h.size ∷ p ∷ []) (number_field (get_or fs 3 []) h.bound f.bound))) ∙ join_split comma l
 
 -- ---- how long joined parts are
-long_join : (c : ℕ) (p : List ℕ) (ps : List (List ℕ)) → All (λ f. 0 < length f) ps → length p + 2 * length ps ≤ length (join c (p ∷ ps))
+long_join : (c : ℕ) (p : List ℕ) (ps : List (List ℕ)) → AllByRecursion (λ f. 0 < length f) ps → length p + 2 * length ps ≤ length (join c (p ∷ ps))
 long_join c p [] h = omega arith
 long_join c p (r ∷ ps) h = omega (arith, h.0, length-append p (c ∷ join c (r ∷ ps)), long_join c r ps h.1)
 
@@ -84,7 +84,7 @@ nothing_behind_ok n line (l ∷ ls) m h = absurd (err_ok h)
 pub record Body (h : Header) (n : ℕ) (ls : List (List ℕ)) (m : ℕ) : Type 0 where
   pub written : ls ≡ body_lines m (matrices_in ls)
   pub count : m ≡ n + length (matrices_in ls)
-  pub matrices : All (MatrixOf h) (matrices_in ls)
+  pub matrices : AllByRecursion (MatrixOf h) (matrices_in ls)
   pub room : 2 * length (flat (matrices_in ls)) ≤ length (join line_end ls)
 
 pub body_ok : (h : Header) (n line : ℕ) (ls : List (List ℕ)) (m : ℕ) → checked_body h n line ls ≡ Ok m → Body h n ls m
@@ -105,7 +105,7 @@ body_ok h n line (l ∷ ls) m e = by (kind_of (first (split comma l))) refl e (�
         record {
           written = ap (λ (x : List ℕ). x ∷ ls) (sym w.written) ∙ ap (λ (xs : List (List ℕ)). matrix_line (values_of l) ∷ xs) r.written ∙ ap (body_lines m) (sym here);
           count = omega (arith, r.count, ap length here);
-          matrices = subst (All (MatrixOf h)) (sym here) (w.matrix, r.matrices);
+          matrices = subst (AllByRecursion (MatrixOf h)) (sym here) (w.matrix, r.matrices);
           room = omega (arith, w.room, r.room, join_more line_end l ls, ap (λ (x : List (List ℕ)). length (flat x)) here, length-append (values_of l) (flat (matrices_in ls)));
         }
     by (Some End) k e ih =
@@ -115,7 +115,7 @@ body_ok h n line (l ∷ ls) m e = by (kind_of (first (split comma l))) refl e (�
         record {
           written = ap (λ (x : List ℕ). x ∷ ls) (sym (end_ok n line l a.0 k a.1)) ∙ ap (λ (xs : List (List ℕ)). end_line n ∷ xs) d.0 ∙ ap (λ (x : ℕ). end_line x ∷ []) d.1 ∙ ap (body_lines m) (sym here);
           count = omega (arith, d.1, ap length here);
-          matrices = subst (All (MatrixOf h)) (sym here) tt;
+          matrices = subst (AllByRecursion (MatrixOf h)) (sym here) tt;
           room = omega (arith, ap (λ (x : List (List ℕ)). length (flat x)) here);
         }
 
@@ -124,7 +124,7 @@ pub record ListFile (ls : List (List ℕ)) (r : Listing) : Type 0 where
   pub fields : HeaderFields 1 (split comma (first ls)) r.header
   pub written : ls ≡ list_lines r.header (matrices_in ls)
   pub count : r.count ≡ length (matrices_in ls)
-  pub matrices : All (MatrixOf r.header) (matrices_in ls)
+  pub matrices : AllByRecursion (MatrixOf r.header) (matrices_in ls)
   pub room : 2 * length (flat (matrices_in ls)) ≤ length (join line_end ls)
 
 pub lines_ok : (ls : List (List ℕ)) (r : Listing) → checked_lines ls ≡ Ok r → ListFile ls r
@@ -141,6 +141,6 @@ lines_ok (l ∷ ls) r e =
       fields = f;
       written = ap (λ (x : List ℕ). x ∷ ls) (sym (header_written 1 l a.0 f)) ∙ ap (λ (xs : List (List ℕ)). header_line a.0 ∷ xs) (b.written ∙ ap (λ (k : ℕ). body_lines k (matrices_in ls)) n) ∙ ap (list_lines a.0) (sym here);
       count = n ∙ ap length (sym here);
-      matrices = subst (All (MatrixOf a.0)) (sym here) b.matrices;
+      matrices = subst (AllByRecursion (MatrixOf a.0)) (sym here) b.matrices;
       room = omega (arith, b.room, join_more line_end l ls, ap (λ (x : List (List ℕ)). length (flat x)) here);
     })

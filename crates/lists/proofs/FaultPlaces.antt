@@ -1,6 +1,6 @@
 -- Where the faults of fields stand.
 use Rattle.std.proofs.Common.{◌≡◌, ℕ, ◌+◌, ◌-◌, ◌<◌, min, Bool, true, false, cond, eqb, List, [], ◌∷◌, map, length, take, Ok, Err, decimal, Result, sym, refl, ap, ◌∙◌, subst, inl, inr, add-zero, arith}
-use Rattle.std.specs.List.{AllByRecursion as All}
+use Rattle.std.specs.List.{AllByRecursion}
 use Rattle.recurrences.specs.declared.refusal.Refusal.{Refusal}
 use Rattle.lists.specs.Checks.{then}
 use Rattle.lists.specs.Faults.{found, line_refused}
@@ -71,7 +71,7 @@ end_placed n line f e h =
 -- ---- codes up to the first that is none
 pub record CodeFault (q line k : ℕ) (fs : List (List ℕ)) (e : FileFault) : Type 0 where
   pub values : List ℕ
-  pub codes : All (λ c. c < q) values
+  pub codes : AllByRecursion (λ c. c < q) values
   pub before : take (length values) fs ≡ map decimal values
   pub few : length values < length fs
   pub placed : Placed e line (k + length values)

@@ -1,6 +1,6 @@
 -- A line and its fields, and what the fields are that were accepted.
 use Rattle.std.proofs.Common.{◌≡◌, ℕ, ◌+◌, ◌<◌, ltb, List, [], ◌∷◌, map, length, get_or, drop, Ok, decimal, sym, refl, ap, ◌∙◌, arith}
-use Rattle.std.specs.List.{AllByRecursion as All}
+use Rattle.std.specs.List.{AllByRecursion}
 use Rattle.std.proofs.lemmas.Bool.{ltb-true}
 use Rattle.recurrences.specs.declared.refusal.Refusal.TheVariants.{Code}
 use Rattle.lists.specs.Contents.{value_of, number_or_zero}
@@ -49,8 +49,8 @@ code_ok q line k f c h =
 -- accepted codes: each field is the decimal number of a code
 pub record CodeFields (q : ℕ) (fs : List (List ℕ)) : Type 0 where
   pub decimals : map decimal (map value_of fs) ≡ fs
-  pub codes : All (λ c. c < q) (map value_of fs)
-  pub some : All (λ f. 0 < length f) fs
+  pub codes : AllByRecursion (λ c. c < q) (map value_of fs)
+  pub some : AllByRecursion (λ f. 0 < length f) fs
 
 pub codes_ok : (q line k : ℕ) (fs : List (List ℕ)) (u : Unit {0}) → codes_from q line k fs ≡ Ok u → CodeFields q fs
 codes_ok q line k [] u h = record { decimals = refl; codes = tt; some = tt }

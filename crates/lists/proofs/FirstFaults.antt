@@ -1,6 +1,6 @@
 -- The refusal of a file names its first fault.
 use Rattle.std.proofs.Common.{◌≡◌, ℕ, zero, suc, ◌+◌, ◌-◌, ◌<◌, ◌≤◌, min, true, List, [], ◌∷◌, ◌++◌, map, length, get_or, take, drop, replicate, Some, None, Ok, Err, decimal, Option, sym, refl, ap, ◌∙◌, subst, inl, inr, append_assoc, arith, length-append}
-use Rattle.std.specs.List.{AllByRecursion as All}
+use Rattle.std.specs.List.{AllByRecursion}
 use Rattle.std.proofs.ByRecursion.{All-append, All-push}
 use Rattle.std.proofs.lemmas.List.{length-map, length_push, length-replicate, map-append, map_push, append-nil}
 use Rattle.recurrences.specs.Limits.{greatest_bound}
@@ -165,7 +165,7 @@ module _ (l : List ℕ) (ls : List (List ℕ)) where
       by (Some End) k r = any_letter_refused {X = Header} e r
 
 -- ---- the lines behind the header h and the matrices ps
-zeros_codes : (q n : ℕ) → 1 ≤ q → All (λ c. c < q) (replicate n 0)
+zeros_codes : (q n : ℕ) → 1 ≤ q → AllByRecursion (λ c. c < q) (replicate n 0)
 zeros_codes q zero h = tt
 zeros_codes q (suc n) h = (omega arith, zeros_codes q n h)
 
@@ -179,12 +179,12 @@ module _ (h : Header) (size : is_size h.size ≡ true) (bound : h.bound ≤ grea
       ap (λ (x : List (List (List ℕ))). header_fields h ∷ (x ++ (end_fields n ∷ []))) (map_push matrix_fields ps m)
       ∙ ap (λ (x : List (List (List ℕ))). header_fields h ∷ x) (append_assoc (map matrix_fields ps) (matrix_fields m ∷ []) (end_fields n ∷ []))
 
-  padded : (vs : List ℕ) → length vs ≤ cells h → All (λ c. c < size_of h.letter) vs → MatrixOf h (vs ++ replicate (cells h - length vs) 0)
+  padded : (vs : List ℕ) → length vs ≤ cells h → AllByRecursion (λ c. c < size_of h.letter) vs → MatrixOf h (vs ++ replicate (cells h - length vs) 0)
   padded vs few c =
       let z = replicate (cells h - length vs) 0 in
       (omega (arith, length-append vs z, length-replicate {A = ℕ} (cells h - length vs) 0), All-append (λ x. x < size_of h.letter) vs z c (zeros_codes (size_of h.letter) (cells h - length vs) (ring_some h.letter)))
 
-  module _ (ps : List (List ℕ)) (good : All (MatrixOf h) ps) (line : ℕ) (place : line ≡ length ps + 2) where
+  module _ (ps : List (List ℕ)) (good : AllByRecursion (MatrixOf h) ps) (line : ℕ) (place : line ≡ length ps + 2) where
     is_list : IsList h ps
     is_list = record { size = size; bound = bound; matrices = good }
 
@@ -251,7 +251,7 @@ module _ (h : Header) (size : is_size h.size ≡ true) (bound : h.bound ≤ grea
       ∙ ap (λ (x : List (List ℕ)). header_line h ∷ (x ++ ls)) (map_push (join comma) (map matrix_fields ps) (matrix_fields m))
       ∙ ap (λ (x : List (List ℕ)). header_line h ∷ x) (append_assoc (map (join comma) (map matrix_fields ps)) (matrix_line m ∷ []) ls))
 
-  body_refused : (ps : List (List ℕ)) → All (MatrixOf h) ps → (n line : ℕ) → n ≡ length ps → line ≡ length ps + 2 → (ls all : List (List ℕ)) → all ≡ map (join comma) (before ps) ++ ls → (e : FileFault) → checked_body h n line ls ≡ Err e → FirstFault all e
+  body_refused : (ps : List (List ℕ)) → AllByRecursion (MatrixOf h) ps → (n line : ℕ) → n ≡ length ps → line ≡ length ps + 2 → (ls all : List (List ℕ)) → all ≡ map (join comma) (before ps) ++ ls → (e : FileFault) → checked_body h n line ls ≡ Err e → FirstFault all e
   body_refused ps good n line count place [] all begins e r = body_letter ps good line place all [] begins {X = ℕ} e r
   body_refused ps good n line count place (l ∷ ls) all begins e r =
       by (kind_of (first (split comma l))) refl r

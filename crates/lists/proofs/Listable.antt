@@ -1,6 +1,6 @@
 -- The lists that write accepts.
 use Rattle.std.proofs.Common.{◌≡◌, ℕ, ◌%◌, ◌<◌, ◌≤◌, Bool, true, false, cond, eqb, ltb, leb, List, [], ◌∷◌, length, Ok, Err, Result, sym, refl, ap, ◌∙◌, mul-le-mul, arith}
-use Rattle.std.specs.List.{AllByRecursion as All}
+use Rattle.std.specs.List.{AllByRecursion}
 use Rattle.std.proofs.lemmas.Bool.{eqb-true, eq-eqb, leb-true, le-leb, ltb-true, ltb-false, lt-ltb, le-ltb, and_parts, and_from, cond-true, cond-false}
 use Rattle.recurrences.specs.Limits.{greatest_bound}
 use Rattle.recurrences.specs.declared.refusal.Refusal.{Refusal}
@@ -20,11 +20,11 @@ use Rattle.lists.proofs.Headers.{size_least}
 use Rattle.lists.proofs.Parted.{flat_parted, parted_lengths, parted_all, length_parted, count_times, all_both}
 use Rattle.lists.proofs.Steps.{err_ok, then_ok, carried_ok, cond_ok}
 
-pub codes_all : (q : ℕ) (cs : List ℕ) → all_codes q cs ≡ true → All (λ c. c < q) cs
+pub codes_all : (q : ℕ) (cs : List ℕ) → all_codes q cs ≡ true → AllByRecursion (λ c. c < q) cs
 codes_all q [] h = tt
 codes_all q (c ∷ cs) h = let p = and_parts (ltb c q) (all_codes q cs) h in (ltb-true c q p.0, codes_all q cs p.1)
 
-pub all_codes_from : (q : ℕ) (cs : List ℕ) → All (λ c. c < q) cs → all_codes q cs ≡ true
+pub all_codes_from : (q : ℕ) (cs : List ℕ) → AllByRecursion (λ c. c < q) cs → all_codes q cs ≡ true
 all_codes_from q [] h = refl
 all_codes_from q (c ∷ cs) h = and_from (ltb c q) (all_codes q cs) (lt-ltb c q h.0) (all_codes_from q cs h.1)
 
@@ -32,7 +32,7 @@ pub record Listable (h : Header) (cs : List ℕ) : Type 0 where
   pub size : is_size h.size ≡ true
   pub bound : h.bound ≤ greatest_bound
   pub multiple : length cs % cells h ≡ 0
-  pub codes : All (λ c. c < size_of h.letter) cs
+  pub codes : AllByRecursion (λ c. c < size_of h.letter) cs
   pub short : length (text h cs) ≤ greatest_length
 
 text_ok : (t : List ℕ) (n : ℕ) → checked_text t ≡ Ok n → (length t ≤ greatest_length) × (length t ≡ n)
@@ -100,5 +100,5 @@ module _ (h : Header) (cs : List ℕ) (l : Listable h cs) where
   listed = record {
     size = l.size;
     bound = l.bound;
-    matrices = all_both (λ m. length m ≡ cells h) (All (λ c. c < size_of h.letter)) (matrices_of h cs) (parted_lengths (cells h) (count_of h cs) cs (count_times (cells h) cs l.multiple)) (parted_all (cells h) (λ c. c < size_of h.letter) (count_of h cs) cs l.codes);
+    matrices = all_both (λ m. length m ≡ cells h) (AllByRecursion (λ c. c < size_of h.letter)) (matrices_of h cs) (parted_lengths (cells h) (count_of h cs) cs (count_times (cells h) cs l.multiple)) (parted_all (cells h) (λ c. c < size_of h.letter) (count_of h cs) cs l.codes);
   }

@@ -1,7 +1,7 @@
 -- What is written has no mark inside its parts.
 use Rattle.std.proofs.Common.{◌≡◌, ℕ, ◌^◌, ◌<◌, ◌≤◌, true, false, eqb, leb, List, [], ◌∷◌, map, decimal, refl, arith}
 use Rattle.std.specs.Char.{is_ascii_digit}
-use Rattle.std.specs.List.{AllByRecursion as All}
+use Rattle.std.specs.List.{AllByRecursion}
 use Rattle.std.specs.Str.{all_ascii_digits}
 use Rattle.std.proofs.ByRecursion.{All-append}
 use Rattle.std.proofs.lemmas.Bool.{ne_eqb, leb-true, and_parts}
@@ -28,11 +28,11 @@ digits_free c (d ∷ ds) low h =
 pub decimal_free : (c n : ℕ) → c < 48 → n < 2 ^ 32 → Free c (decimal n)
 decimal_free c n low small = digits_free c (decimal n) low (decimal_digits n (omega arith))
 
-numbers_free : (c q : ℕ) (m : List ℕ) → c < 48 → q ≤ 2 ^ 32 → All (λ x. x < q) m → All (Free c) (map decimal m)
+numbers_free : (c q : ℕ) (m : List ℕ) → c < 48 → q ≤ 2 ^ 32 → AllByRecursion (λ x. x < q) m → AllByRecursion (Free c) (map decimal m)
 numbers_free c q [] low fits h = tt
 numbers_free c q (x ∷ m) low fits h = (decimal_free c x low (omega (arith, h.0)), numbers_free c q m low fits h.1)
 
-pub join_free : (c k : ℕ) (ps : List (List ℕ)) → eqb k c ≡ false → All (Free c) ps → Free c (join k ps)
+pub join_free : (c k : ℕ) (ps : List (List ℕ)) → eqb k c ≡ false → AllByRecursion (Free c) ps → Free c (join k ps)
 join_free c k [] e h = tt
 join_free c k (p ∷ []) e h = h.0
 join_free c k (p ∷ r ∷ ps) e h = All-append (λ b. eqb b c ≡ false) p (k ∷ join k (r ∷ ps)) h.0 (e, join_free c k (r ∷ ps) e h.1)

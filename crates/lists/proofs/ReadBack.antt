@@ -1,6 +1,6 @@
 -- A written list reads back as itself.
 use Rattle.std.proofs.Common.{◌≡◌, ℕ, ◌+◌, ◌-◌, ◌^◌, ◌<◌, ◌≤◌, true, cond, eqb, ltb, leb, List, [], ◌∷◌, ◌++◌, map, length, get_or, drop, Ok, Err, decimal, Option, Result, refl, ap, ◌∙◌, arith, length-append}
-use Rattle.std.specs.List.{AllByRecursion as All}
+use Rattle.std.specs.List.{AllByRecursion}
 use Rattle.std.proofs.lemmas.List.{length-map, length_push, get_or_push, take_at}
 use Rattle.std.proofs.lemmas.Bool.{eq-eqb, lt-ltb, le-ltb, le-leb, cond-true, cond-false}
 use Rattle.recurrences.specs.Limits.{greatest_bound}
@@ -45,11 +45,11 @@ module _ (q : ℕ) (fits : q ≤ 2 ^ 32) where
       ap (λ (r : Result ℕ FileFault). then r (λ v. run_at line k (checked_code q v))) (number_back line k x (omega arith))
       ∙ ap (run_at line k) (cond-true (ltb x q) (Ok x) (Err Code) (lt-ltb x q low))
 
-  codes_back : (line k : ℕ) (m : List ℕ) → All (λ x. x < q) m → codes_from q line k (map decimal m) ≡ Ok tt
+  codes_back : (line k : ℕ) (m : List ℕ) → AllByRecursion (λ x. x < q) m → codes_from q line k (map decimal m) ≡ Ok tt
   codes_back line k [] h = refl
   codes_back line k (x ∷ m) h = ap (λ (r : Result ℕ FileFault). then r (λ _. codes_from q line (k + 1) (map decimal m))) (code_back line k x h.0) ∙ codes_back line (k + 1) m h.1
 
-  values_back : (m : List ℕ) → All (λ x. x < q) m → map value_of (map decimal m) ≡ m
+  values_back : (m : List ℕ) → AllByRecursion (λ x. x < q) m → map value_of (map decimal m) ≡ m
   values_back [] h = refl
   values_back (x ∷ m) h = ap (λ (v : ℕ). v ∷ map value_of (map decimal m)) (ap number_or_zero (numeral_decimal x (omega (arith, h.0)))) ∙ ap (λ (xs : List ℕ). x ∷ xs) (values_back m h.1)
 
@@ -67,7 +67,7 @@ module _ (h : Header) where
       ∙ cond-true (eqb n n) (Ok tt) _ (eq-eqb n n refl)
 
   -- ---- the lines behind the header
-  body_back : (n line m : ℕ) (ms : List (List ℕ)) → All (MatrixOf h) ms → m ≡ n + length ms → m < 2 ^ 32 → checked_body h n line (body_lines m ms) ≡ Ok m
+  body_back : (n line m : ℕ) (ms : List (List ℕ)) → AllByRecursion (MatrixOf h) ms → m ≡ n + length ms → m < 2 ^ 32 → checked_body h n line (body_lines m ms) ≡ Ok m
   body_back n line m [] w e small =
       let same : n ≡ m = omega arith in
       ap (λ (fs : List (List ℕ)). by_kind (kind_of (first fs)) (line_refused Letter line 1) (then (checked_matrix h line fs) (λ _. checked_body h (n + 1) (line + 1) [])) (then (checked_end n line fs) (λ _. nothing_behind n (line + 1) [])) (line_refused Letter line 1)) (end_split m small)
@@ -79,14 +79,14 @@ module _ (h : Header) where
       ∙ ap (λ (r : Result (Unit {0}) FileFault). then r (λ _. checked_body h (n + 1) (line + 1) ls)) (matrix_back line a w.0)
       ∙ body_back (n + 1) (line + 1) m ms w.1 (omega arith) small
 
-  matrices_back : (m : ℕ) (ms : List (List ℕ)) → All (MatrixOf h) ms → m < 2 ^ 32 → matrices_in (body_lines m ms) ≡ ms
+  matrices_back : (m : ℕ) (ms : List (List ℕ)) → AllByRecursion (MatrixOf h) ms → m < 2 ^ 32 → matrices_in (body_lines m ms) ≡ ms
   matrices_back m [] w small = ap (λ (fs : List (List ℕ)). by_kind (kind_of (first fs)) [] (map value_of (drop 1 fs) ∷ []) [] []) (end_split m small)
   matrices_back m (a ∷ ms) w small =
       let ls = body_lines m ms in
       ap (λ (fs : List (List ℕ)). by_kind (kind_of (first fs)) (matrices_in ls) (map value_of (drop 1 fs) ∷ matrices_in ls) (matrices_in ls) (matrices_in ls)) (matrix_split h a w.0)
       ∙ ap (λ (x : List ℕ). x ∷ matrices_in ls) (values_back (size_of h.letter) (ring_within_words h.letter) a w.0.1) ∙ ap (λ (xs : List (List ℕ)). a ∷ xs) (matrices_back m ms w.1 small)
 
-  body_free : (m : ℕ) (ms : List (List ℕ)) → All (MatrixOf h) ms → m < 2 ^ 32 → All (Free line_end) (body_lines m ms)
+  body_free : (m : ℕ) (ms : List (List ℕ)) → AllByRecursion (MatrixOf h) ms → m < 2 ^ 32 → AllByRecursion (Free line_end) (body_lines m ms)
   body_free m [] w small = (end_free m small, tt)
   body_free m (a ∷ ms) w small = (matrix_free h a w.0, body_free m ms w.1 small)
 

@@ -1,6 +1,6 @@
 -- Laws of a text parted at a byte.
 use Rattle.std.proofs.Common.{◌≡◌, ℕ, suc, ◌+◌, ◌<◌, ◌≤◌, Bool, true, false, cond, eqb, List, [], ◌∷◌, ◌++◌, length, take, drop, sym, refl, ap, ◌∙◌, le_of_suc-le-suc, add-one, arith}
-use Rattle.std.specs.List.{AllByRecursion as All}
+use Rattle.std.specs.List.{AllByRecursion}
 use Rattle.std.proofs.lemmas.Bool.{cond-true, cond-false, eq-eqb, eqb-true}
 use Rattle.lists.specs.Split.{onto_first, split, join, before}
 
@@ -55,7 +55,7 @@ join_split c (b ∷ bs) = by (eqb b c) refl (join_split c bs)
 
 -- a part that has no mark in it
 abbrev pub Free : ℕ → List ℕ → Type 0
-Free c p = All (λ b. eqb b c ≡ false) p
+Free c p = AllByRecursion (λ b. eqb b c ≡ false) p
 
 split_free : (c : ℕ) (p : List ℕ) → Free c p → split c p ≡ p ∷ []
 split_free c [] h = refl
@@ -65,7 +65,7 @@ split_front : (c : ℕ) (p bs : List ℕ) → Free c p → split c (p ++ (c ∷ 
 split_front c [] bs h = cond-true (eqb c c) ([] ∷ split c bs) (onto_first c (split c bs)) (eq-eqb c c refl)
 split_front c (b ∷ p) bs h = cond-false (eqb b c) ([] ∷ split c (p ++ (c ∷ bs))) (onto_first b (split c (p ++ (c ∷ bs)))) h.0 ∙ ap (onto_first b) (split_front c p bs h.1)
 
-pub split_join : (c : ℕ) (p : List ℕ) (ps : List (List ℕ)) → All (Free c) (p ∷ ps) → split c (join c (p ∷ ps)) ≡ p ∷ ps
+pub split_join : (c : ℕ) (p : List ℕ) (ps : List (List ℕ)) → AllByRecursion (Free c) (p ∷ ps) → split c (join c (p ∷ ps)) ≡ p ∷ ps
 split_join c p [] h = split_free c p h.0
 split_join c p (q ∷ ps) h = split_front c p (join c (q ∷ ps)) h.0 ∙ ap (λ (x : List (List ℕ)). p ∷ x) (split_join c q ps h.1)
 

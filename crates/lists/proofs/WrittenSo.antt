@@ -1,6 +1,6 @@
 -- An accepted file is what its list is written as.
 use Rattle.std.proofs.Common.{◌≡◌, ℕ, ◌+◌, ◌-◌, ◌*◌, ◌<◌, List, [], ◌∷◌, ◌++◌, length, get_or, take, Ok, sym, ap, ◌∙◌, subst, arith}
-use Rattle.std.specs.List.{AllByRecursion as All}
+use Rattle.std.specs.List.{AllByRecursion}
 use Rattle.std.proofs.ByRecursion.{All-weaker}
 use Rattle.std.proofs.lemmas.List.{take_more, take_all}
 use Rattle.lists.specs.Bytes.{line_end}
@@ -42,11 +42,11 @@ module _ (b : List ℕ) (r : Listing) (o : opened b ≡ Ok tt) (e : checked_line
   f : ListFile (lines_of b) r
   f = lines_ok (lines_of b) r e
 
-  lengths : All (λ m. length m ≡ cells h) ms
+  lengths : AllByRecursion (λ m. length m ≡ cells h) ms
   lengths = All-weaker (MatrixOf h) (λ m. length m ≡ cells h) (λ m w. w.0) ms f.matrices
 
-  codes : All (λ c. c < size_of h.letter) (flat ms)
-  codes = flat_all (λ c. c < size_of h.letter) ms (All-weaker (MatrixOf h) (All (λ c. c < size_of h.letter)) (λ m w. w.1) ms f.matrices)
+  codes : AllByRecursion (λ c. c < size_of h.letter) (flat ms)
+  codes = flat_all (λ c. c < size_of h.letter) ms (All-weaker (MatrixOf h) (AllByRecursion (λ c. c < size_of h.letter)) (λ m w. w.1) ms f.matrices)
 
   some : 0 < cells h
   some = cells_some h f.fields.is_size

@@ -1,6 +1,6 @@
 -- A refusal names the first fault of a file.
 use Rattle.std.specs.Prelude.{◌≡◌, ℕ, ◌-◌, ◌<◌, ◌≤◌, min, true, List, [], length, take, Err, slice_index_or}
-use Rattle.std.specs.List.{AllByRecursion as All}
+use Rattle.std.specs.List.{AllByRecursion}
 use Rattle.recurrences.specs.Limits.{greatest_bound}
 use Rattle.lists.specs.Bytes.{comma}
 use Rattle.lists.specs.Contents.{reading}
@@ -17,13 +17,13 @@ use Rattle.lists.specs.declared.header.Header.{Header}
 
 -- a matrix of the header's size and ring
 abbrev pub MatrixOf : Header → List ℕ → Type 0
-MatrixOf h m = (length m ≡ cells h) × All (λ c. c < size_of h.letter) m
+MatrixOf h m = (length m ≡ cells h) × AllByRecursion (λ c. c < size_of h.letter) m
 
 -- a list of any length
 pub record IsList (h : Header) (ms : List (List ℕ)) : Type 0 where
   pub size : is_size h.size ≡ true
   pub bound : h.bound ≤ greatest_bound
-  pub matrices : All (MatrixOf h) ms
+  pub matrices : AllByRecursion (MatrixOf h) ms
 
 -- The first lines are as in the text of some list, and of the line behind them the first fields: so they have no fault.
 pub record Faultless (ls : List (List ℕ)) (lines fields : ℕ) : Type 0 where
