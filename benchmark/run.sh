@@ -15,11 +15,11 @@ esac
 work=$(mktemp -d)
 trap 'rm -rf "$work"' EXIT
 
-rt check timing > "$work/check" || { cat "$work/check"; exit 1; }
+(cd crates/timing && rt run < stdin) > "$work/check" 2>&1 || { cat "$work/check"; exit 1; }
 gcc -O2 -std=c11 -Wall -Wextra -Werror benchmark/peer.c -o "$work/peer"
 python3 benchmark/generate.py "$work"
 
-ours=target/bin/timing
+ours=crates/timing/out/timing
 peer=$work/peer
 
 # The input of a recording ($1) of a ring ($2) and a size ($3), put through a run so many times ($4).

@@ -6,7 +6,6 @@ cd "$(dirname "$0")/.."
 work=$(mktemp -d)
 trap 'rm -rf "$work"' EXIT
 
-rt check analysis > "$work/proved" || { cat "$work/proved"; exit 1; }
 (cd crates/analysis_c && rt lib > "$work/proved") || { cat "$work/proved"; exit 1; }
 cp crates/analysis_c/out/libanalysis_c.a "$work/libanalysis.a"
 gcc -O2 -std=c11 -Wall -Wextra -Werror host/host.c "$work/libanalysis.a" -o "$work/host"
