@@ -16,7 +16,7 @@ fn packed(fault: FileFault) -> u64
     number * 0x1_0000_0000 + line * 0x100 + field
 }
 
-// Analyse for a host that links it: answers the number of bytes written, or the refusal as one number.
+// Analyse with one number for an answer: that of the bytes written, or the refusal.
 pub fn analyse_file(file: &[u8], answer: &mut [u8]) -> u64
     ensures answer { result ≡ as_number (answer_length (answer_into (length answer.old) file.now)) }
     ensures place { answer.new ≡ answer_place (answer_into (length answer.old) file.now) answer.old }

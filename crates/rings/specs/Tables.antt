@@ -1,4 +1,4 @@
--- A field's arithmetic written out as tables of numbers, which a ghost field can hold where it cannot hold functions.
+-- A field's arithmetic written out as tables of numbers: data, where a meaning is functions.
 use mathlib.Core.Path.{contract, sym, ◌∙◌}
 use Rattle.std.specs.Prelude.{◌≡◌, ℕ, List, [], ◌∷◌, map, Some, None, Option, slice_index, slice_index_or}
 use Rattle.std.specs.List.{range_with_len}
