@@ -5,13 +5,10 @@ use Rattle.std.proofs.lemmas.Fmt.{length-decimal-le}
 use Rattle.std.proofs.lemmas.Bool.{and_parts, and_from, ltb-true, lt-ltb}
 use Rattle.rings.specs.Arithmetic.{Arithmetic}
 use Rattle.recurrences.specs.Codes.{all_codes}
-use Rattle.recurrences.specs.declared.phase.Phase.{Phase}
-use Rattle.recurrences.specs.declared.phase.Phase.TheVariants.{Short, Running, Settled}
-use Rattle.recurrences.specs.Degrees.{greatest, least, total}
-use Rattle.recurrences.specs.Phases.{phase}
+use Rattle.recurrences.specs.declared.phase.Phase.TheVariants.{Short}
+use Rattle.recurrences.specs.Degrees.{total}
 use Rattle.recurrences.specs.Standing.{listed}
 use Rattle.recurrences.proofs.Listing.{length_listed, get_or_listed}
-use Rattle.recurrences.proofs.PhaseFacts.{running_says, settled_says}
 use Rattle.runs.specs.Promise.{Promise}
 use Rattle.runs.specs.Standings.{count_of, columns_after, column_after, phase_after}
 use Rattle.runs.proofs.CodesAt.{all_codes_from}
@@ -21,9 +18,9 @@ use Rattle.lists.proofs.Streamed.{line_length}
 use Rattle.verdicts.specs.declared.verdict.Verdict.{Verdict}
 use Rattle.verdicts.specs.declared.verdict.Verdict.TheVariants.{Unsettled, Generated, Misfit, Insufficient}
 use Rattle.verdicts.specs.Verdicts.{letter_of}
-use Rattle.verdicts.proofs.GeneratorColumns.{column_length}
+use Rattle.verdicts.proofs.GeneratorColumns.{column_length, total_within_bound}
 use Rattle.analysis.specs.Limits.{least_answer}
-use Rattle.analysis.specs.Answer.{column_letter, degree_letter, misfit_letter, column_line, column_lines, degree_line, misfit_line, lines_under, ColumnsGiven}
+use Rattle.analysis.specs.Answer.{column_letter, degree_letter, misfit_letter, column_line, column_lines, columns_under, degree_line, misfit_line, lines_under, ColumnsGiven}
 use Rattle.analysis.proofs.Degrees.{count_small, total_small, degree_small}
 use Rattle.analysis.proofs.Texts.{lines_length}
 
@@ -34,15 +31,6 @@ commaed_short q (x ∷ xs) h e =
     let p = and_parts (ltb x q) (all_codes q xs) e in
     let few : length (decimal x) ≤ 3 = length-decimal-le 3 x (omega arith) (omega (arith, ltb-true x q p.0)) (omega (arith, ltb-true x q p.0)) in
     omega (arith, length-append (comma ∷ decimal x) (commaed xs), few, commaed_short q xs h p.1)
-
--- a run that is not short totals no more than the bound
-pub not_short_says : (bound σ μ β : ℕ) → phase bound σ μ β ≢ Short → σ ≤ bound
-not_short_says bound σ μ β h = by (phase bound σ μ β) refl
-  where
-    by : (p : Phase) → phase bound σ μ β ≡ p → σ ≤ bound
-    by Short e = absurd (h e)
-    by Running e = (running_says bound σ μ β e).0
-    by Settled e = (settled_says bound σ μ β e).0
 
 module _ (a : Arithmetic) (N : ℕ) (taken : List ℕ) where
   pub column_lines_grow : (j k : ℕ) → j ≤ k → length (column_lines a N taken j) ≤ length (column_lines a N taken k)
@@ -55,6 +43,21 @@ module _ (a : Arithmetic) (N : ℕ) (taken : List ℕ) where
       go : Dec (j ≤ k) → (j ≤ k → length (column_lines a N taken j) ≤ length (column_lines a N taken k)) → length (column_lines a N taken j) ≤ length (column_lines a N taken (suc k))
       go (yes l) ih = omega (arith, ih l, length-append (column_lines a N taken k) (column_line a N taken k))
       go (no l) ih = omega (arith, ap (λ (i : ℕ). length (column_lines a N taken i)) (let e : j ≡ suc k = omega arith in e))
+
+  -- under a verdict that gives columns, all of them
+  columns_all : (v : Verdict) → v ≢ Insufficient → columns_under a N taken v ≡ column_lines a N taken N
+  columns_all Unsettled told = refl
+  columns_all Generated told = refl
+  columns_all (Misfit l) told = refl
+  columns_all Insufficient told = absurd (told refl)
+
+  -- the line of a column stands behind those before it
+  pub columns_before : (v : Verdict) (j : ℕ) → v ≢ Insufficient → j < N → length (column_lines a N taken j) + length (column_line a N taken j) ≤ length (columns_under a N taken v)
+  columns_before v j told h =
+      omega (arith, ap length (columns_all v told), column_lines_grow (suc j) N h, length-append (column_lines a N taken j) (column_line a N taken j))
+
+  pub column_within : (v : Verdict) (j : ℕ) → v ≢ Insufficient → j < N → length (column_line a N taken j) ≤ length (lines_under a N taken v)
+  column_within v j told h = omega (arith, lines_length a N taken v, columns_before v j told h)
 
   -- of codes of a ring of at most 256
   module _ (small : N ≤ 4) (q : ℕ) (bytes : q ≤ 256) (codes : (j : ℕ) → all_codes q (column_after a N taken j) ≡ true) where
@@ -85,8 +88,7 @@ module _ (a : Arithmetic) (N : ℕ) (taken : List ℕ) where
 
       all_columns_short : phase_after a N bound taken ≢ Short → length (column_lines a N taken N) ≤ 1112
       all_columns_short h =
-          let d = (columns_after a N taken).gen_degree in
-          omega (arith, columns_short N small, not_short_says bound (total N d) (greatest N d) (least N (columns_after a N taken).aux_degree) h)
+          omega (arith, columns_short N small, total_within_bound a N bound taken h)
 
       misfit_short : (l : ℕ) → l < 2 ^ 32 → length (misfit_line (Misfit l)) ≤ 13
       misfit_short l h = omega (arith, line_length (misfit_letter ∷ []) (l ∷ []), length-append (comma ∷ decimal l) [], length-decimal-le 10 l (omega arith) (omega arith) (omega arith))

@@ -1,10 +1,10 @@
-ghost use Rattle.std.specs.Prelude.{◌≡◌, ◌≤◌, length, Some, None};
+ghost use Rattle.std.specs.Prelude.{◌≡◌, ◌≤◌, length, None};
 ghost use Rattle.lists.specs.Faults.{found};
 ghost use Rattle.lists.specs.Rings.{size_of};
 ghost use Rattle.lists.specs.declared.fault.FileFault.TheVariants.{InLine};
 ghost use Rattle.lists.specs.declared.fault.LineFault.TheVariants.{Ring};
 ghost use Rattle.verdicts.specs.Refusals.{list_refusal};
-ghost use Rattle.analysis.specs.Analyse.{answer_length, answer_over, answer_place, names_words};
+ghost use Rattle.analysis.specs.Analyse.{answer_length, answer_over, answer_place};
 ghost use Rattle.analysis.specs.Fields.{arithmetic_of};
 ghost use Rattle.analysis.specs.Laws.{Entitled};
 ghost use Rattle.analysis.specs.Limits.{least_answer};
@@ -12,27 +12,6 @@ ghost use Rattle.analysis.specs.Limits.{least_answer};
 use crate::over::answer_over;
 use lists::{FileFault, Found, Header, LineFault, RingLetter};
 use rings::{Binary, Bytes, Mod101};
-
-fn is_words(letter: RingLetter) -> bool
-    ensures { result ≡ names_words (Some letter) }
-{
-    match letter {
-        RingLetter::B => false,
-        RingLetter::P => false,
-        RingLetter::Y => false,
-        RingLetter::W => true,
-    }
-}
-
-// Whether the letter is that of words that wrap.
-pub(crate) fn names_words(letter: Option<RingLetter>) -> bool
-    ensures { result ≡ names_words letter }
-{
-    match letter {
-        Some(letter) => is_words(letter),
-        None => false,
-    }
-}
 
 // The refusal of a ring letter that names no field.
 pub(crate) fn no_field() -> FileFault
@@ -58,6 +37,7 @@ pub(crate) fn answer_by_letter(
     ensures place { place.new ≡ answer_place (answer_over (arithmetic_of header.now.letter) header.now codes.now) place.old }
     ensures entitles { Entitled (arithmetic_of header.now.letter) header.now codes.now }
 {
+    // Each field is a type of its own, so that each letter has an arm.
     match header.letter {
         RingLetter::B => Ok(answer_over(Binary, header, codes, place)),
         RingLetter::P => Ok(answer_over(Mod101, header, codes, place)),

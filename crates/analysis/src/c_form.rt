@@ -6,7 +6,7 @@ ghost use Rattle.analysis.specs.Laws.{LawfulAnswer};
 use crate::analysing::analyse;
 use lists::FileFault;
 
-// A refusal as one number: number × 2^32 + line × 2^8 + field.
+// A refusal as one number, since a C host takes back no more: number × 2^32 + line × 2^8 + field.
 fn packed(fault: FileFault) -> u64
     ensures { result ≡ packed fault }
 {

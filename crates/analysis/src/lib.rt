@@ -1,9 +1,9 @@
 #![tactic(auto)]
 
 mod analysing;
-mod answer;
 mod by_letter;
 pub mod c_form;
+mod finding;
 mod limits;
 mod over;
 

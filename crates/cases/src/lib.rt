@@ -1,11 +1,20 @@
 #![tactic(auto)]
 
-mod reader;
-mod said;
+mod calls;
+mod codes;
+mod error;
+mod parts;
+mod place;
 mod short_forms;
+mod tally;
+mod text;
 mod trials;
-mod values;
 
-pub use said::Said;
-pub use trials::{Calls, NOT_UNDERSTOOD, try_cases};
-pub use values::{BYTES, CODES, NONE, Values};
+pub use calls::Calls;
+pub use codes::Codes;
+pub use error::CallError;
+pub use parts::Part;
+pub use place::written;
+pub use tally::Tally;
+pub use text::Text;
+pub use trials::try_cases;

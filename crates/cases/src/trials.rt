@@ -1,64 +1,46 @@
-use crate::said::Said;
-use crate::short_forms::read_said;
-use crate::values::{NONE, Values};
+use crate::calls::Calls;
+use crate::error::CallError;
+use crate::parts::read_parts;
+use crate::short_forms::written_out;
+use crate::tally::Tally;
+use std::alloc::Global;
 use std::io;
 
-// The words of the answer to what is no call. They are never right.
-pub const NOT_UNDERSTOOD: &str = "not understood";
-
-// The calls that cases are made of.
-pub trait Calls {
-    // Carries out a call, puts the values of its answer, and answers its words.
-    fn carry_out(&mut self, call: &Said, came: &mut Values) -> &'static str;
-}
-
-// What was tried, and how much of it came out as it should.
-#[derive(Drop)]
-struct Tally {
-    tried: u64,
-    right: u64,
-}
-
-// Prints what came in place of what is due: its words, and the first of its values.
-fn print_wrong(rt: &HostRuntime, line: &str, words: &str, came: &Values) -> io::Result<()> {
-    let numbers = came.numbers;
-    let codes = &came.codes[0..16];
-    let bytes = &came.bytes[0..16];
-    println!(rt; "{line}, WRONG: {words} came, with {numbers:?}, {codes:?}, {bytes:?}")
-}
-
-fn try_line<C: Calls>(
-    rt: &HostRuntime,
+// What a call answers, if it is not what is due.
+fn misfit<C: Calls>(
+    alloc: Global,
     calls: &mut C,
-    tally: &mut Tally,
-    line: &str,
-) -> io::Result<()> {
+    call: &str,
+    due: &str,
+) -> Result<Option<String>, CallError> {
+    let call = read_parts(alloc, call)?;
+    let came = calls.carry_out(alloc, call.as_slice())?.to_string(alloc)?;
+    let right = read_parts(alloc, came.as_str())? == read_parts(alloc, due)?;
+    Ok(if right { None } else { Some(came) })
+}
+
+// The same for a call and an answer that may have short forms.
+fn misfit_in_short<C: Calls>(
+    alloc: Global,
+    calls: &mut C,
+    call: &str,
+    due: &str,
+) -> Result<Option<String>, CallError> {
+    let call = written_out(alloc, call)?;
+    let due = written_out(alloc, due)?;
+    misfit(alloc, calls, call.as_str(), due.as_str())
+}
+
+fn try_line<C: Calls>(calls: &mut C, tally: &mut Tally<'_>, line: &str) -> io::Result<()> {
+    let rt = tally.rt();
     if line.is_empty() || line.starts_with('#') {
         return println!(rt; "{line}");
     }
     let (call, due) = line.split_once(" -> ").unwrap_or((line, ""));
-    let due = read_said(due);
-    let mut came = NONE;
-    let words = calls.carry_out(&read_said(call), &mut came);
-    tally.tried = tally.tried.saturating_add(1);
-    if words != NOT_UNDERSTOOD && words.as_bytes() == due.words() && came.same(&due.values) {
-        tally.right = tally.right.saturating_add(1);
-        return println!(rt; "{line}, right");
-    }
-    print_wrong(rt, line, words, &came)
-}
-
-fn try_lines<C: Calls>(rt: &HostRuntime, calls: &mut C, text: &str) -> io::Result<()> {
-    let mut tally = Tally { tried: 0, right: 0 };
-    for line in text.lines() {
-        try_line(rt, calls, &mut tally, line)?;
-    }
-    let Tally { tried, right } = tally;
-    println!(rt; "{tried} tried, {right} right")?;
-    if tried > 0 && tried == right {
-        Ok(())
-    } else {
-        Err(io::Error::other("not all is right"))
+    match misfit_in_short(rt.alloc(), calls, call, due) {
+        Ok(None) => println!(rt; "{line}, {}", tally.count(true)),
+        Ok(Some(came)) => println!(rt; "{line}, {}: {came} came", tally.count(false)),
+        Err(error) => println!(rt; "{line}, {}: {error}", tally.count(false)),
     }
 }
 
@@ -67,5 +49,14 @@ fn try_lines<C: Calls>(rt: &HostRuntime, calls: &mut C, text: &str) -> io::Resul
 // the counts. Unless something was tried and all of it came out right, the answer is an error.
 pub fn try_cases<C: Calls>(rt: &HostRuntime, calls: &mut C) -> io::Result<()> {
     let text = io::read_to_string(rt.alloc(), rt.stdin())?;
-    try_lines(rt, calls, text.as_str())
+    let mut tally = Tally::new(rt);
+    for line in text.lines() {
+        try_line(calls, &mut tally, line)?;
+    }
+    tally.close()?;
+    if tally.all_right() {
+        Ok(())
+    } else {
+        Err(io::Error::other("not all is right"))
+    }
 }

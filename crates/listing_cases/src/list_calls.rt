@@ -1,114 +1,130 @@
-use cases::{BYTES, CODES, NONE, NOT_UNDERSTOOD, Values};
-use lists::{Lines, Listing, RingLetter, read, write};
+use crate::answers::Answer;
+use cases::Part::{self, Word};
+use cases::{CallError, Calls, written};
+use lists::{GREATEST_LENGTH, Header, LEAST_PLACE, Lines, Listing, RingLetter, read, write};
+use std::alloc::Global;
 
-// The greatest number of a list.
-const GREATEST: usize = 4294967295;
+// What a code and a byte of a place are before a call writes them.
+const BLANK_CODE: u32 = 4294967295;
 
-fn letter(byte: usize) -> Option<RingLetter> {
-    match byte {
-        66 => Some(RingLetter::B),
-        80 => Some(RingLetter::P),
-        89 => Some(RingLetter::Y),
-        87 => Some(RingLetter::W),
-        _ => None,
+const BLANK_BYTE: u8 = 7;
+
+fn letter(part: &Part<'_>) -> Result<RingLetter, CallError> {
+    match part {
+        Word("B") => Ok(RingLetter::B),
+        Word("P") => Ok(RingLetter::P),
+        Word("Y") => Ok(RingLetter::Y),
+        Word("W") => Ok(RingLetter::W),
+        _ => Err(CallError::NotUnderstood),
     }
 }
 
-// Tells a list that was read, and writes it again, which should give the file.
-fn list(given: &Values, listing: Listing, came: &mut Values) -> &'static str {
-    let header = listing.header;
-    if header.size > 4 {
-        return "written otherwise";
-    }
-    let size = header.size as usize;
-    let count = listing.count as usize;
-    let length = size * size * count;
-    came.numbers[0] = header.letter.byte() as usize;
-    came.numbers[1] = size;
-    came.numbers[2] = header.bound as usize;
-    came.numbers[3] = count;
-    came.numbers[4] = length;
-    let mut again = NONE;
-    let codes = came.list(0, length);
-    match write(
-        header.letter,
-        header.size,
-        header.bound,
-        codes,
-        &mut again.bytes,
-    ) {
-        Ok(n) if n == given.numbers[0] && again.bytes == given.bytes =>
-            "ring @ size # bound # count # codes []",
-        _ => "written otherwise",
-    }
-}
-
-pub fn read_into(given: &Values, place: usize, came: &mut Values) -> &'static str {
-    if place > CODES {
-        return NOT_UNDERSTOOD;
-    }
-    match read(given.text(given.numbers[0]), &mut came.codes[0..place]) {
-        Ok(listing) => list(given, listing, came),
+// Writes a list into a place of so many bytes.
+fn write_list(
+    alloc: Global,
+    letter: RingLetter,
+    size: u32,
+    bound: u32,
+    codes: &[u32],
+    length: usize,
+) -> Result<Answer, CallError> {
+    let mut place = vec![in alloc; BLANK_BYTE; length]?;
+    match write(letter, size, bound, codes, &mut place) {
+        Ok(length) => Ok(Answer::File(written(place, length, BLANK_BYTE)?)),
         Err(fault) => {
-            came.numbers[0] = fault.number() as usize;
-            came.numbers[1] = fault.line() as usize;
-            came.numbers[2] = fault.field() as usize;
-            "refused # line # field #"
+            written(place, 0, BLANK_BYTE)?;
+            Ok(Answer::RefusedList(fault))
         }
     }
 }
 
-pub fn write_into(given: &Values, came: &mut Values) -> &'static str {
-    let [byte, size, bound, length, place, ..] = given.numbers;
-    let Some(letter) = letter(byte) else {
-        return NOT_UNDERSTOOD;
-    };
-    if size > GREATEST || bound > GREATEST || place > BYTES {
-        return NOT_UNDERSTOOD;
+fn write_again(alloc: Global, header: &Header, codes: &[u32]) -> Result<Answer, CallError> {
+    let (size, bound) = (header.size.rows() as u32, header.bound.degree() as u32);
+    write_list(alloc, header.letter, size, bound, codes, GREATEST_LENGTH)
+}
+
+fn code_count(listing: &Listing) -> usize {
+    listing.header.size.cells() * listing.count as usize
+}
+
+// The codes of a list that was read. It is written again, which should give its file.
+fn written_again(
+    alloc: Global,
+    listing: Listing,
+    codes: Vec<u32>,
+    file: &[u8],
+) -> Result<Answer, CallError> {
+    let again = write_again(alloc, &listing.header, codes.as_slice())?;
+    if again == Answer::File(file.to_vec(alloc)?) {
+        Ok(Answer::List(listing, codes))
+    } else {
+        Ok(Answer::WrittenOtherwise)
     }
-    let codes = given.list(0, length);
-    match write(
-        letter,
-        size as u32,
-        bound as u32,
-        codes,
-        &mut came.bytes[0..place],
-    ) {
-        Ok(n) => {
-            came.numbers[0] = n;
-            "\"\""
+}
+
+// Reads a file into a place of so many codes.
+fn read_file(alloc: Global, file: &[u8], length: usize) -> Result<Answer, CallError> {
+    let mut place = vec![in alloc; BLANK_CODE; length]?;
+    match read(file, &mut place) {
+        Ok(listing) => {
+            let codes = written(place, code_count(&listing), BLANK_CODE)?;
+            written_again(alloc, listing, codes, file)
         }
         Err(fault) => {
-            came.numbers[0] = fault.number() as usize;
-            "refused #"
+            written(place, 0, BLANK_CODE)?;
+            Ok(Answer::RefusedFile(fault))
         }
     }
 }
 
-// The numbers of the lines, and the lines. Behind the last there is none, however often it is asked for.
-pub fn lines(given: &Values, came: &mut Values) -> &'static str {
-    let mut lines = Lines::new(given.text(given.numbers[0]));
-    let mut count = 0;
-    let mut end = 0;
-    for _ in 0..BYTES {
+// The lines of a file and their numbers. Behind the last there is none, however often it is asked for.
+fn file_lines(alloc: Global, file: &[u8]) -> Result<Answer, CallError> {
+    let mut lines = Lines::new(file);
+    let mut numbers = Vec::new(alloc);
+    let mut bytes = Vec::new(alloc);
+    for _ in 0..GREATEST_LENGTH {
         if let Some(line) = lines.next_line() {
-            if count < CODES {
-                came.codes[count] = line.number;
-                count += 1;
-            }
-            for byte in line.bytes {
-                if end < BYTES {
-                    came.bytes[end] = *byte;
-                    end += 1;
-                }
-            }
-            if end < BYTES {
-                came.bytes[end] = b'\n';
-                end += 1;
-            }
+            numbers.push(line.number)?;
+            bytes.extend_from_slice(line.bytes)?;
+            bytes.push(b'\n')?;
         }
     }
-    came.numbers[0] = count;
-    came.numbers[1] = end;
-    "numbers [] \"\""
+    Ok(Answer::Lines(numbers, bytes))
+}
+
+// The calls on list files.
+#[derive(Clone, Copy)]
+pub struct ListCalls;
+
+impl Calls for ListCalls {
+    type Answer = Answer;
+
+    // A file is read into the least place where no other is said.
+    fn carry_out(&mut self, alloc: Global, call: &[Part<'_>]) -> Result<Answer, CallError> {
+        match call {
+            [Word("read"), file] => read_file(alloc, file.text()?, LEAST_PLACE),
+            [Word("read"), file, Word("place"), length] => {
+                read_file(alloc, file.text()?, length.number()?)
+            }
+            [
+                Word("write"),
+                ring,
+                Word("size"),
+                size,
+                Word("bound"),
+                bound,
+                Word("codes"),
+                codes,
+                Word("place"),
+                length,
+            ] => {
+                let letter = letter(ring)?;
+                let size = u32::try_from(size.number()?)?;
+                let bound = u32::try_from(bound.number()?)?;
+                write_list(alloc, letter, size, bound, codes.codes()?, length.number()?)
+            }
+            [Word("lines"), file] => file_lines(alloc, file.text()?),
+            _ => Err(CallError::NotUnderstood),
+        }
+    }
 }

@@ -1,104 +1,46 @@
-ghost use Rattle.std.specs.Prelude.{◌≤◌, length};
-
-use crate::reading::{Due, accepted, damaged, refused, refused_for_place};
-use crate::tally::Tally;
-use crate::writing::{RefusedList, unwritten};
-use lists::RingLetter;
+use crate::header::header;
+use crate::reading::{damaged, good};
+use crate::writing::unwritten;
+use cases::Tally;
+use lists::RingLetter::P;
+use lists::WholeFault::{Place, TooLong};
+use std::alloc::{AllocError, Global};
 use std::io;
 
-// How many lines the longest files here have behind their header and before their end.
-const LINES: usize = 8188;
-
-// Puts a text at a place as far as there is room, and answers the place behind it.
-fn put(file: &mut [u8], at: usize, text: &[u8]) -> usize
-    ensures { result ≤ length file.old }
-{
-    let mut next = if at < file.len() { at } else { file.len() };
-    for b in text {
-        if next < file.len() {
-            file[next] = *b;
-            next += 1;
-        }
+// The file of the matrices of one code modulo 101.
+fn file_of(heap: Global, codes: &[u32]) -> Result<String, AllocError> {
+    let mut file = String::from_str(heap, "S,P,1,0\n")?;
+    for code in codes {
+        writeln!(file, "M,{code}")?;
     }
-    next
+    let count = codes.len();
+    writeln!(file, "E,{count}")?;
+    Ok(file)
 }
 
-// A file modulo 101 of 32,767 bytes and one more for each of the first tens, whose code is 10.
-fn put_long(file: &mut [u8], tens: usize) -> usize
-    ensures { result ≤ length file.old }
-{
-    let mut at = put(file, 0, b"S,P,1,0\n");
-    for i in 0..LINES {
-        at = if i < tens {
-            put(file, at, b"M,10\n")
-        } else {
-            put(file, at, b"M,0\n")
-        };
-    }
-    put(file, at, b"E,8188\n")
-}
-
-pub fn longest(rt: &HostRuntime, tally: &mut Tally) -> io::Result<()> {
-    let mut codes = [0; LINES];
+// Files of 32,768 bytes, the greatest length, and of one byte more.
+pub fn lengths(tally: &mut Tally<'_>) -> io::Result<()> {
+    let heap = tally.rt().alloc();
+    let mut codes = [0; 8188];
     codes[0] = 10;
-    let mut file = [0; 32769];
-    let n = put_long(&mut file, 1);
-    accepted(
-        rt,
-        tally,
+    let file = file_of(heap, &codes)?;
+    good(
         "32,768 bytes",
-        &file[0..n],
-        Due {
-            letter: 'P',
-            size: 1,
-            bound: 0,
-            count: 8188,
-            codes: &codes,
-        },
+        file.as_bytes(),
+        header(P, 1, 0),
+        8188,
+        &codes,
     )
-}
-
-pub fn too_long(rt: &HostRuntime, tally: &mut Tally) -> io::Result<()> {
-    let mut file = [0; 32769];
-    let n = put_long(&mut file, 2);
-    refused(rt, tally, damaged("32,769 bytes", &file[0..n], 10, 0, 0))
-}
-
-pub fn too_long_for_place(rt: &HostRuntime, tally: &mut Tally) -> io::Result<()> {
-    let mut file = [0; 32769];
-    let n = put_long(&mut file, 2);
-    refused_for_place(
-        rt,
-        tally,
-        damaged("32,769 bytes into 16,383 codes", &file[0..n], 10, 0, 0),
-    )
-}
-
-pub fn too_long_to_write(rt: &HostRuntime, tally: &mut Tally) -> io::Result<()> {
-    let mut codes = [0; LINES];
-    codes[0] = 10;
+    .try_out(tally, 16384)?;
     codes[1] = 10;
-    let list = RefusedList {
-        letter: RingLetter::P,
-        size: 1,
-        bound: 0,
-        codes: &codes,
-        number: 10,
-    };
-    let mut place = [7; 4];
-    unwritten(rt, tally, "32,769 bytes into 4", list, &mut place)
+    let file = file_of(heap, &codes)?;
+    damaged("32,769 bytes", file.as_bytes(), TooLong).try_out(tally, 16384)?;
+    damaged("32,769 bytes into 16,383 codes", file.as_bytes(), TooLong).try_out(tally, 16383)?;
+    unwritten("32,769 bytes into 4", header(P, 1, 0), &codes, TooLong).try_out(tally, 4)
 }
 
-// A place for 16,383 codes.
-pub fn places(rt: &HostRuntime, tally: &mut Tally) -> io::Result<()> {
-    refused_for_place(
-        rt,
-        tally,
-        damaged("a good file into 16,383 codes", b"S,B,1,0\nE,0\n", 11, 0, 0),
-    )?;
-    refused_for_place(
-        rt,
-        tally,
-        damaged("an empty file into 16,383 codes", b"", 11, 0, 0),
-    )
+// Places for 16,383 codes.
+pub fn places(tally: &mut Tally<'_>) -> io::Result<()> {
+    damaged("a good file into 16,383 codes", b"S,B,1,0\nE,0\n", Place).try_out(tally, 16383)?;
+    damaged("an empty file into 16,383 codes", b"", Place).try_out(tally, 16383)
 }

@@ -1,40 +1,37 @@
 #![tactic(auto)]
 
-mod compared;
 mod cursor;
 mod good;
+mod header;
 mod limits;
 mod lines;
 mod numbers;
+mod place;
 mod reading;
-mod tally;
 mod writing;
 
-use crate::tally::Tally;
+use cases::Tally;
 use std::io;
 
 fn main(rt: HostRuntime) -> io::Result<()> {
-    let mut tally = Tally::new();
-    good::rings(&rt, &mut tally)?;
-    good::edges(&rt, &mut tally)?;
-    cursor::handed_out(&rt, &mut tally)?;
-    lines::whole_files(&rt, &mut tally)?;
-    lines::start_letters(&rt, &mut tally)?;
-    lines::body_letters(&rt, &mut tally)?;
-    lines::counts(&rt, &mut tally)?;
-    lines::ring_letters(&rt, &mut tally)?;
-    numbers::sizes(&rt, &mut tally)?;
-    numbers::bounds(&rt, &mut tally)?;
-    numbers::codes(&rt, &mut tally)?;
-    numbers::ends(&rt, &mut tally)?;
-    numbers::first_faults(&rt, &mut tally)?;
-    writing::lists_refused(&rt, &mut tally)?;
-    writing::orders(&rt, &mut tally)?;
-    writing::places(&rt, &mut tally)?;
-    limits::longest(&rt, &mut tally)?;
-    limits::too_long(&rt, &mut tally)?;
-    limits::too_long_for_place(&rt, &mut tally)?;
-    limits::too_long_to_write(&rt, &mut tally)?;
-    limits::places(&rt, &mut tally)?;
-    tally.close(&rt)
+    let mut tally = Tally::new(&rt);
+    good::rings(&mut tally)?;
+    good::edges(&mut tally)?;
+    cursor::handed_out(&mut tally)?;
+    lines::whole_files(&mut tally)?;
+    lines::start_letters(&mut tally)?;
+    lines::body_letters(&mut tally)?;
+    lines::counts(&mut tally)?;
+    lines::ring_letters(&mut tally)?;
+    numbers::sizes(&mut tally)?;
+    numbers::bounds(&mut tally)?;
+    numbers::codes(&mut tally)?;
+    numbers::ends(&mut tally)?;
+    numbers::first_faults(&mut tally)?;
+    writing::lists_refused(&mut tally)?;
+    writing::orders(&mut tally)?;
+    writing::places(&mut tally)?;
+    limits::lengths(&mut tally)?;
+    limits::places(&mut tally)?;
+    tally.close()
 }

@@ -1,135 +1,88 @@
-use crate::compared::{holds_bytes, holds_codes};
-use crate::tally::Tally;
-use lists::{Header, read, write};
+use crate::header::Said;
+use crate::place::{UNTOUCHED_BYTE, UNTOUCHED_CODE, holds};
+use cases::Tally;
+use lists::{FileFault, Found, Listing, read, write};
 use std::io;
 
-// What a place holds that nothing was written into.
-const UNTOUCHED: u32 = 77;
-
-const UNTOUCHED_BYTE: u8 = 7;
-
-// The list that a file holds.
-#[derive(Drop)]
-pub struct Due<'a> {
-    pub letter: char,
-    pub size: u32,
-    pub bound: u32,
-    pub count: u32,
-    pub codes: &'a [u32],
-}
-
-fn same_header(header: &Header, due: &Due<'_>) -> bool {
-    header.letter.byte() as char == due.letter
-        && header.size == due.size
-        && header.bound == due.bound
-}
-
-// Whether the list is written as the file, byte for byte.
-fn written_again(header: &Header, codes: &[u32], file: &[u8]) -> bool {
-    let mut place = [UNTOUCHED_BYTE; 32768];
-    match write(header.letter, header.size, header.bound, codes, &mut place) {
-        Ok(n) => n == file.len() && holds_bytes(&place, file, UNTOUCHED_BYTE),
-        Err(_) => false,
-    }
-}
-
-// Reads a good file, and writes its list again.
-pub fn accepted(
-    rt: &HostRuntime,
-    tally: &mut Tally,
-    what: &str,
-    file: &[u8],
-    due: Due<'_>,
-) -> io::Result<()> {
-    let mut place = [UNTOUCHED; 16384];
-    match read(file, &mut place) {
-        Ok(listing) => {
-            let header = listing.header;
-            let told = same_header(&header, &due) && listing.count == due.count;
-            let held = holds_codes(&place, due.codes, UNTOUCHED);
-            let right = told && held && written_again(&header, due.codes, file);
-            let word = tally.count(right);
-            let letter = header.letter.byte() as char;
-            let size = header.size;
-            let bound = header.bound;
-            let count = listing.count;
-            println!(rt;
-                "{what}: ring {letter}, size {size}, bound {bound}, {count} matrices, {word}"
-            )
-        }
-        Err(fault) => {
-            let word = tally.count(false);
-            let number = fault.number();
-            println!(rt; "{what}: refused with {number}, {word}")
-        }
-    }
-}
-
-// A damaged file, and the fault that it is refused with.
+// A file, and what is due for it: what it says of its list and the codes of that, or the fault that it is refused with.
 #[derive(Clone, Copy)]
-pub struct Damage<'a> {
+pub struct File<'a> {
     what: &'a str,
-    file: &'a [u8],
-    number: u32,
-    line: u32,
-    field: u32,
+    bytes: &'a [u8],
+    due: Result<(Said, u32, &'a [u32]), FileFault>,
 }
 
-pub fn damaged<'a>(
+pub fn good<'a>(
     what: &'a str,
-    file: &'a [u8],
-    number: u32,
-    line: u32,
-    field: u32,
-) -> Damage<'a> {
-    Damage {
+    bytes: &'a [u8],
+    header: Said,
+    count: u32,
+    codes: &'a [u32],
+) -> File<'a> {
+    File {
         what,
-        file,
-        number,
-        line,
-        field,
+        bytes,
+        due: Ok((header, count, codes)),
     }
 }
 
-// Reads a damaged file into a place.
-fn refused_into(
-    rt: &HostRuntime,
-    tally: &mut Tally,
-    case: Damage<'_>,
-    place: &mut [u32],
-) -> io::Result<()> {
-    let what = case.what;
-    match read(case.file, place) {
-        Ok(_) => {
-            let word = tally.count(false);
-            println!(rt; "{what}: accepted, {word}")
-        }
-        Err(fault) => {
-            let number = fault.number();
-            let line = fault.line();
-            let field = fault.field();
-            let told = number == case.number && line == case.line && field == case.field;
-            let word = tally.count(told && holds_codes(place, &[], UNTOUCHED));
-            println!(rt; "{what}: {number} at line {line}, field {field}, {word}")
+pub fn damaged<'a, E: Into<FileFault>>(what: &'a str, bytes: &'a [u8], fault: E) -> File<'a> {
+    File {
+        what,
+        bytes,
+        due: Err(fault.into()),
+    }
+}
+
+// A fault that is met at a line and a field.
+pub fn at<E>(line: u32, field: u32, fault: E) -> Found<E> {
+    Found { fault, line, field }
+}
+
+// Whether a list is written as these bytes.
+fn written_as(bytes: &[u8], header: Said, codes: &[u32]) -> bool {
+    let mut place = [UNTOUCHED_BYTE; 32768];
+    write(header.letter, header.size, header.bound, codes, &mut place) == Ok(bytes.len())
+        && holds(&place, bytes, UNTOUCHED_BYTE)
+}
+
+impl File<'_> {
+    // Reads it into a place for so many codes, and writes a list that it holds again.
+    pub fn try_out(&self, tally: &mut Tally<'_>, room: usize) -> io::Result<()> {
+        let what = self.what;
+        let mut place = vec![in tally.rt().alloc(); UNTOUCHED_CODE; room]?;
+        let answer = read(self.bytes, &mut place).map(|Listing { header, count }| (
+            Said::from(header),
+            count,
+        ));
+        let codes = self.due.map_or([].as_slice(), |(_, _, codes)| codes);
+        let told = answer == self.due.map(|(header, count, _)| (header, count));
+        let right = told && holds(&place, codes, UNTOUCHED_CODE);
+        match answer {
+            Ok((header, count)) => {
+                let word = tally.count(right && written_as(self.bytes, header, codes));
+                let letter = header.letter.byte() as char;
+                let size = header.size;
+                let bound = header.bound;
+                println!(tally.rt();
+                    "{what}: ring {letter}, size {size}, bound {bound}, {count} matrices, {word}"
+                )
+            }
+            Err(fault) => {
+                let word = tally.count(right);
+                let number = fault.number();
+                let line = fault.line();
+                let field = fault.field();
+                println!(tally.rt(); "{what}: {number} at line {line}, field {field}, {word}")
+            }
         }
     }
 }
 
-// Reads a damaged file into a place that is long enough.
-pub fn refused(rt: &HostRuntime, tally: &mut Tally, case: Damage<'_>) -> io::Result<()> {
-    let mut place = [UNTOUCHED; 16384];
-    refused_into(rt, tally, case, &mut place)
-}
-
-pub fn all_refused(rt: &HostRuntime, tally: &mut Tally, cases: &[Damage<'_>]) -> io::Result<()> {
-    for case in cases {
-        refused(rt, tally, *case)?;
+// Reads each file into a place that is long enough.
+pub fn try_all(tally: &mut Tally<'_>, files: &[File<'_>]) -> io::Result<()> {
+    for file in files {
+        file.try_out(tally, 16384)?;
     }
     Ok(())
-}
-
-// Reads a file into a place that is too short by one.
-pub fn refused_for_place(rt: &HostRuntime, tally: &mut Tally, case: Damage<'_>) -> io::Result<()> {
-    let mut place = [UNTOUCHED; 16383];
-    refused_into(rt, tally, case, &mut place)
 }

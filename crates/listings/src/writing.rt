@@ -1,257 +1,135 @@
-use crate::compared::holds_bytes;
-use crate::tally::Tally;
-use lists::{RingLetter, write};
+use crate::header::{Said, header};
+use crate::place::{UNTOUCHED_BYTE, holds};
+use cases::Tally;
+use lists::RingLetter::{B, P, Y};
+use lists::WholeFault::Place;
+use lists::{WriteFault, write};
+use recurrences::Refusal::{Bound, Code, Length, Size};
 use std::io;
 
-const UNTOUCHED: u8 = 7;
-
-// A list, and the number that it is refused with.
-#[derive(Drop)]
-pub struct RefusedList<'a> {
-    pub letter: RingLetter,
-    pub size: u32,
-    pub bound: u32,
-    pub codes: &'a [u32],
-    pub number: u32,
+// A list, and what is due for it: the text that it is written as, or the fault that it is refused with.
+#[derive(Clone, Copy)]
+pub struct List<'a> {
+    what: &'a str,
+    header: Said,
+    codes: &'a [u32],
+    due: Result<&'a [u8], WriteFault>,
 }
 
-// Writes a list into a place that it is refused for, or that it is refused before.
-pub fn unwritten(
-    rt: &HostRuntime,
-    tally: &mut Tally,
-    what: &str,
-    list: RefusedList<'_>,
-    place: &mut [u8],
-) -> io::Result<()> {
-    match write(list.letter, list.size, list.bound, list.codes, place) {
-        Ok(n) => {
-            let word = tally.count(false);
-            println!(rt; "writing {what}: {n} bytes, {word}")
-        }
-        Err(fault) => {
-            let number = fault.number();
-            let word = tally.count(number == list.number && holds_bytes(place, b"", UNTOUCHED));
-            println!(rt; "writing {what}: {number}, {word}")
+pub fn unwritten<'a, E: Into<WriteFault>>(
+    what: &'a str,
+    header: Said,
+    codes: &'a [u32],
+    fault: E,
+) -> List<'a> {
+    List {
+        what,
+        header,
+        codes,
+        due: Err(fault.into()),
+    }
+}
+
+impl List<'_> {
+    // Writes it into a place for so many bytes.
+    pub fn try_out(&self, tally: &mut Tally<'_>, room: usize) -> io::Result<()> {
+        let what = self.what;
+        let header = self.header;
+        let mut place = vec![in tally.rt().alloc(); UNTOUCHED_BYTE; room]?;
+        let answer = write(
+            header.letter,
+            header.size,
+            header.bound,
+            self.codes,
+            &mut place,
+        );
+        let told = answer == self.due.map(|text| text.len());
+        let held = holds(&place, self.due.unwrap_or(b""), UNTOUCHED_BYTE);
+        let word = tally.count(told && held);
+        match answer {
+            Ok(n) => println!(tally.rt(); "writing {what}: {n} bytes, {word}"),
+            Err(fault) => println!(tally.rt(); "writing {what}: {}, {word}", fault.number()),
         }
     }
 }
 
-fn refused(
-    rt: &HostRuntime,
-    tally: &mut Tally,
-    what: &str,
-    list: RefusedList<'_>,
-) -> io::Result<()> {
-    let mut place = [UNTOUCHED; 64];
-    unwritten(rt, tally, what, list, &mut place)
-}
-
 // Lists that are refused.
-pub fn lists_refused(rt: &HostRuntime, tally: &mut Tally) -> io::Result<()> {
-    refused(
-        rt,
-        tally,
-        "the size 0",
-        RefusedList {
-            letter: RingLetter::B,
-            size: 0,
-            bound: 0,
-            codes: &[],
-            number: 1,
-        },
-    )?;
-    refused(
-        rt,
-        tally,
-        "the size 5",
-        RefusedList {
-            letter: RingLetter::B,
-            size: 5,
-            bound: 0,
-            codes: &[],
-            number: 1,
-        },
-    )?;
-    refused(
-        rt,
-        tally,
-        "the size 4294967295",
-        RefusedList {
-            letter: RingLetter::B,
-            size: 4294967295,
-            bound: 0,
-            codes: &[],
-            number: 1,
-        },
-    )?;
-    refused(
-        rt,
-        tally,
-        "the bound 65",
-        RefusedList {
-            letter: RingLetter::P,
-            size: 1,
-            bound: 65,
-            codes: &[],
-            number: 2,
-        },
-    )?;
-    refused(
-        rt,
-        tally,
-        "the bound 4294967295",
-        RefusedList {
-            letter: RingLetter::P,
-            size: 1,
-            bound: 4294967295,
-            codes: &[],
-            number: 2,
-        },
-    )?;
-    refused(
-        rt,
-        tally,
-        "three codes of a matrix of four",
-        RefusedList {
-            letter: RingLetter::B,
-            size: 2,
-            bound: 0,
-            codes: &[0, 1, 1],
-            number: 4,
-        },
-    )?;
-    refused(
-        rt,
-        tally,
-        "one code behind a matrix of four",
-        RefusedList {
-            letter: RingLetter::B,
-            size: 2,
-            bound: 0,
-            codes: &[0, 1, 1, 0, 1],
-            number: 4,
-        },
-    )?;
-    refused(
-        rt,
-        tally,
-        "the bit 2",
-        RefusedList {
-            letter: RingLetter::B,
-            size: 1,
-            bound: 0,
-            codes: &[0, 2],
-            number: 5,
-        },
-    )?;
-    refused(
-        rt,
-        tally,
-        "the code 101 modulo 101",
-        RefusedList {
-            letter: RingLetter::P,
-            size: 1,
-            bound: 0,
-            codes: &[101],
-            number: 5,
-        },
-    )?;
-    refused(
-        rt,
-        tally,
-        "the byte 256",
-        RefusedList {
-            letter: RingLetter::Y,
-            size: 1,
-            bound: 0,
-            codes: &[256],
-            number: 5,
-        },
-    )
+pub fn lists_refused(tally: &mut Tally<'_>) -> io::Result<()> {
+    let cases = [
+        unwritten("the size 0", header(B, 0, 0), &[], Size),
+        unwritten("the size 5", header(B, 5, 0), &[], Size),
+        unwritten("the size 4294967295", header(B, 4294967295, 0), &[], Size),
+        unwritten("the bound 65", header(P, 1, 65), &[], Bound),
+        unwritten("the bound 4294967295", header(P, 1, 4294967295), &[], Bound),
+        unwritten(
+            "three codes of a matrix of four",
+            header(B, 2, 0),
+            &[0, 1, 1],
+            Length,
+        ),
+        unwritten(
+            "one code behind a matrix of four",
+            header(B, 2, 0),
+            &[0, 1, 1, 0, 1],
+            Length,
+        ),
+        unwritten("the bit 2", header(B, 1, 0), &[0, 2], Code),
+        unwritten("the code 101 modulo 101", header(P, 1, 0), &[101], Code),
+        unwritten("the byte 256", header(Y, 1, 0), &[256], Code),
+    ];
+    for list in &cases {
+        list.try_out(tally, 64)?;
+    }
+    Ok(())
 }
 
 // Lists with several faults: the first is told.
-pub fn orders(rt: &HostRuntime, tally: &mut Tally) -> io::Result<()> {
-    refused(
-        rt,
-        tally,
-        "a wrong size before a wrong bound",
-        RefusedList {
-            letter: RingLetter::B,
-            size: 5,
-            bound: 65,
-            codes: &[2],
-            number: 1,
-        },
-    )?;
-    refused(
-        rt,
-        tally,
-        "a wrong bound before a wrong length",
-        RefusedList {
-            letter: RingLetter::B,
-            size: 2,
-            bound: 65,
-            codes: &[2],
-            number: 2,
-        },
-    )?;
-    refused(
-        rt,
-        tally,
-        "a wrong length before a wrong code",
-        RefusedList {
-            letter: RingLetter::B,
-            size: 2,
-            bound: 0,
-            codes: &[2],
-            number: 4,
-        },
-    )?;
-    let mut place = [UNTOUCHED; 4];
+pub fn orders(tally: &mut Tally<'_>) -> io::Result<()> {
+    let cases = [
+        unwritten(
+            "a wrong size before a wrong bound",
+            header(B, 5, 65),
+            &[2],
+            Size,
+        ),
+        unwritten(
+            "a wrong bound before a wrong length",
+            header(B, 2, 65),
+            &[2],
+            Bound,
+        ),
+        unwritten(
+            "a wrong length before a wrong code",
+            header(B, 2, 0),
+            &[2],
+            Length,
+        ),
+    ];
+    for list in &cases {
+        list.try_out(tally, 64)?;
+    }
     unwritten(
-        rt,
-        tally,
         "a wrong code before a short place",
-        RefusedList {
-            letter: RingLetter::B,
-            size: 1,
-            bound: 0,
-            codes: &[2],
-            number: 5,
-        },
-        &mut place,
+        header(B, 1, 0),
+        &[2],
+        Code,
     )
+    .try_out(tally, 4)
 }
 
 // Places on both sides of a text of 12 bytes.
-pub fn places(rt: &HostRuntime, tally: &mut Tally) -> io::Result<()> {
-    let mut short = [UNTOUCHED; 11];
-    unwritten(
-        rt,
-        tally,
-        "12 bytes into 11",
-        RefusedList {
-            letter: RingLetter::B,
-            size: 1,
-            bound: 0,
-            codes: &[],
-            number: 11,
-        },
-        &mut short,
-    )?;
-    let mut exact = [UNTOUCHED; 12];
-    written(rt, tally, "12 bytes into 12", &mut exact)?;
-    let mut longer = [UNTOUCHED; 20];
-    written(rt, tally, "12 bytes into 20", &mut longer)
+pub fn places(tally: &mut Tally<'_>) -> io::Result<()> {
+    unwritten("12 bytes into 11", header(B, 1, 0), &[], Place).try_out(tally, 11)?;
+    empty("12 bytes into 12").try_out(tally, 12)?;
+    empty("12 bytes into 20").try_out(tally, 20)
 }
 
-fn written(rt: &HostRuntime, tally: &mut Tally, what: &str, place: &mut [u8]) -> io::Result<()> {
-    let answer = write(RingLetter::B, 1, 0, &[], place);
-    let n = match answer {
-        Ok(n) => n,
-        Err(_) => 0,
-    };
-    let word = tally.count(n == 12 && holds_bytes(place, b"S,B,1,0\nE,0\n", UNTOUCHED));
-    println!(rt; "writing {what}: {n} bytes, {word}")
+// The list of no matrix, whose text has 12 bytes.
+fn empty(what: &str) -> List<'_> {
+    List {
+        what,
+        header: header(B, 1, 0),
+        codes: &[],
+        due: Ok(b"S,B,1,0\nE,0\n"),
+    }
 }

@@ -1,5 +1,6 @@
 -- Decimal numbers written digit by digit.
-use Rattle.std.proofs.Common.{◌≡◌, ℕ, ◌+◌, ◌/◌, ◌%◌, ◌^◌, ◌<◌, ◌≤◌, List, [], ◌∷◌, length, decimal, sym, ap, ◌∙◌, arith}
+use Rattle.std.proofs.Common.{◌≡◌, ℕ, zero, suc, ◌+◌, ◌*◌, ◌/◌, ◌%◌, ◌^◌, ◌<◌, ◌≤◌, List, [], ◌∷◌, length, decimal, sym, ap, ◌∙◌, arith}
+use native.Mathlib.Nat.{pow-suc}
 use Rattle.std.proofs.lemmas.Fmt.{decimal_digit, decimal_step, length-decimal-le}
 use Rattle.std.proofs.lemmas.List.{length_push}
 use Rattle.lists.specs.Places.{written}
@@ -10,6 +11,16 @@ length_digit n h = ap length (decimal_digit n h)
 
 pub length_step : (n : ℕ) → 10 ≤ n → n < 2 ^ 32 → length (decimal n) ≡ length (decimal (n / 10)) + 1
 length_step n h small = ap length (decimal_step n h (omega arith)) ∙ length_push (decimal (n / 10)) (48 + n % 10)
+
+ten_pow_some : (k : ℕ) → 1 ≤ 10 ^ k
+ten_pow_some zero = omega arith
+ten_pow_some (suc k) = omega (arith, pow-suc 10 k, ten_pow_some k)
+
+pub length_between : (k n : ℕ) → 10 ^ k ≤ n → n < 10 * 10 ^ k → n < 2 ^ 32 → length (decimal n) ≡ k + 1
+length_between zero n h g small = length_digit n (omega arith)
+length_between (suc k) n h g small =
+    let p : 10 ^ suc k ≡ 10 ^ k * 10 = pow-suc 10 k in
+    omega (arith, length_step n (omega (arith, p, ten_pow_some k)) small, length_between k (n / 10) (omega (arith, p)) (omega (arith, p)) (omega arith))
 
 pub digits_few : (n : ℕ) → n < 2 ^ 32 → length (decimal n) ≤ 10
 digits_few n small = length-decimal-le 10 n (omega arith) (omega arith) (omega arith)

@@ -7,7 +7,7 @@ use Rattle.lists.specs.Faults.{found, line_refused}
 use Rattle.lists.specs.FirstFault.{Faultless, FirstOf, FirstFault}
 use Rattle.lists.specs.LineChecks.{counted, number_at, run_at, code_at, codes_from}
 use Rattle.lists.specs.Numeral.{numeral}
-use Rattle.lists.specs.Ranges.{checked_code}
+use Rattle.recurrences.specs.Ranges.{checked_code}
 use Rattle.lists.specs.declared.fault.FileFault.{FileFault}
 use Rattle.lists.specs.declared.fault.FileFault.TheVariants.{Whole, InLine, InNumber, InRun}
 use Rattle.lists.specs.declared.fault.LineFault.{LineFault}

@@ -6,7 +6,7 @@ use Rattle.recurrences.specs.declared.refusal.Refusal.TheVariants.{Code}
 use Rattle.lists.specs.Contents.{value_of, number_or_zero}
 use Rattle.lists.specs.LineChecks.{number_at, code_at, codes_from}
 use Rattle.lists.specs.Numeral.{numeral}
-use Rattle.lists.specs.Ranges.{checked_code}
+use Rattle.recurrences.specs.Ranges.{checked_code}
 use Rattle.lists.specs.Split.{first}
 use Rattle.lists.proofs.Numerals.{decimal_numeral}
 use Rattle.lists.proofs.Steps.{err_ok, then_ok, carried_ok, cond_ok}

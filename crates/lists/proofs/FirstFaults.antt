@@ -12,7 +12,7 @@ use Rattle.lists.specs.FileChecks.{nothing_behind, checked_body, checked_lines, 
 use Rattle.lists.specs.FirstFault.{MatrixOf, IsList, Faultless, Miscounted, FirstFault}
 use Rattle.lists.specs.Kinds.{kind_of, by_kind}
 use Rattle.lists.specs.LineChecks.{counted, ring_at, size_at, bound_at, codes_from, checked_fields, checked_header, checked_matrix, checked_end}
-use Rattle.lists.specs.Ranges.{is_size, checked_size, checked_bound}
+use Rattle.recurrences.specs.Ranges.{is_size, checked_size, checked_bound}
 use Rattle.lists.specs.Rings.{size_of, byte_of, letter_of}
 use Rattle.lists.specs.Split.{split, join, first}
 use Rattle.lists.specs.Text.{header_fields, matrix_fields, end_fields, list_fields, cells}
@@ -114,10 +114,10 @@ module _ (l : List ℕ) (ls : List (List ℕ)) where
     count_refused : counted 4 1 (split comma l) ≡ Err e → FirstFault (l ∷ ls) e
     count_refused c = count_first (least B 1) [] (least_list B 1 refl) [] _ refl (l ∷ ls) (l ∷ ls) refl 1 refl e 4 refl (letter_field l Start kind) c
 
-    ring_refused : ring_at 1 (letter_of (get_or (split comma l) 1 [])) ≡ Err e → FirstFault (l ∷ ls) e
+    ring_refused : ring_at 1 2 (letter_of (get_or (split comma l) 1 [])) ≡ Err e → FirstFault (l ∷ ls) e
     ring_refused r = field_first (least B 1) [] (least_list B 1 refl) [] _ refl (l ∷ ls) (l ∷ ls) refl 1 refl e 2 1 (by (letter_of (get_or (split comma l) 1 [])) r) refl (letter_field l Start kind)
       where
-        by : (o : Option RingLetter) → ring_at 1 o ≡ Err e → Placed e 1 2
+        by : (o : Option RingLetter) → ring_at 1 2 o ≡ Err e → Placed e 1 2
         by (Some g) h = absurd (ok_err h)
         by None h = let same : InLine (found 1 2 Ring) ≡ e = cc in subst (λ (x : FileFault). Placed x 1 2) same (tt, refl, refl)
 
@@ -128,12 +128,12 @@ module _ (l : List ℕ) (ls : List (List ℕ)) where
           ∙ ap (λ (p : List ℕ). p ∷ get_or (split comma l) 1 [] ∷ get_or (split comma l) 2 [] ∷ get_or (split comma l) 3 [] ∷ []) (kind_field (first (split comma l)) Start kind)
           ∙ ap (λ (p : List ℕ). (start_letter ∷ []) ∷ p ∷ get_or (split comma l) 2 [] ∷ get_or (split comma l) 3 [] ∷ []) (ring_field (get_or (split comma l) 1 []) g ring)
 
-      size_refused : size_at 1 (get_or (split comma l) 2 []) ≡ Err e → FirstFault (l ∷ ls) e
+      size_refused : size_at 1 3 (get_or (split comma l) 2 []) ≡ Err e → FirstFault (l ∷ ls) e
       size_refused r = field_first (least g 1) [] (least_list g 1 refl) [] _ refl (l ∷ ls) (l ∷ ls) refl 1 refl e 3 2 (value_placed 1 3 (get_or (split comma l) 2 []) checked_size e r) refl (ap (take 2) fields)
 
-      bound_refused : (n : ℕ) → size_at 1 (get_or (split comma l) 2 []) ≡ Ok n → bound_at 1 (get_or (split comma l) 3 []) ≡ Err e → FirstFault (l ∷ ls) e
+      bound_refused : (n : ℕ) → size_at 1 3 (get_or (split comma l) 2 []) ≡ Ok n → bound_at 1 4 (get_or (split comma l) 3 []) ≡ Err e → FirstFault (l ∷ ls) e
       bound_refused n s r =
-          let z = size_ok 1 (get_or (split comma l) 2 []) n s in
+          let z = size_ok 1 3 (get_or (split comma l) 2 []) n s in
           field_first (least g n) [] (least_list g n z.1) [] _ refl (l ∷ ls) (l ∷ ls) refl 1 refl e 4 3 (value_placed 1 4 (get_or (split comma l) 3 []) checked_bound e r) refl
           (ap (take 3) fields ∙ ap (λ (p : List ℕ). (start_letter ∷ []) ∷ (byte_of g ∷ []) ∷ p ∷ []) (number_field (get_or (split comma l) 2 []) n z.0))
 
@@ -143,14 +143,14 @@ module _ (l : List ℕ) (ls : List (List ℕ)) where
           | inl a ↦ count_refused a
           | inr a ↦
               let c = counted_ok 4 1 (split comma l) a.0 (sym a.1) in
-              elim (then_err (ring_at 1 (letter_of (get_or (split comma l) 1 []))) _ e a.2) [
+              elim (then_err (ring_at 1 2 (letter_of (get_or (split comma l) 1 []))) _ e a.2) [
                 | inl b ↦ ring_refused b
                 | inr b ↦
-                    let g = ring_ok 1 (letter_of (get_or (split comma l) 1 [])) b.0 b.1 in
-                    elim (then_err (size_at 1 (get_or (split comma l) 2 [])) _ e b.2) [
+                    let g = ring_ok 1 2 (letter_of (get_or (split comma l) 1 [])) b.0 b.1 in
+                    elim (then_err (size_at 1 3 (get_or (split comma l) 2 [])) _ e b.2) [
                       | inl s ↦ size_refused c b.0 g s
                       | inr s ↦
-                          elim (then_err (bound_at 1 (get_or (split comma l) 3 [])) _ e s.2) [ inl d ↦ bound_refused c b.0 g s.0 s.1 d | inr d ↦ absurd (ok_err d.2) ]
+                          elim (then_err (bound_at 1 4 (get_or (split comma l) 3 [])) _ e s.2) [ inl d ↦ bound_refused c b.0 g s.0 s.1 d | inr d ↦ absurd (ok_err d.2) ]
                     ]
               ]
         ]

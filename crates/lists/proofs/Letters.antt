@@ -10,7 +10,7 @@ use Rattle.lists.specs.declared.letter.RingLetter.{RingLetter}
 use Rattle.lists.specs.declared.letter.RingLetter.TheVariants.{B, P, Y, W}
 
 pub none_some : {X : Type 0} {x : X} → None ≡ Some x → ⊥
-none_some h = let z : ◌≡◌ {A = ℕ} 0 1 = cc in omega arith
+none_some h = cc
 
 abbrev pub kind_letter : Kind → ℕ
 kind_letter Start = start_letter

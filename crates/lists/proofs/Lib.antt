@@ -1,5 +1,4 @@
 pub mod Splitting
-pub mod Cursors
 pub mod Numerals
 pub mod Counts
 pub mod Writing

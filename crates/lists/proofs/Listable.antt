@@ -9,10 +9,11 @@ use Rattle.lists.specs.Checks.{then, carried}
 use Rattle.lists.specs.Contents.{flat}
 use Rattle.lists.specs.FirstFault.{IsList}
 use Rattle.lists.specs.Limits.{greatest_length}
-use Rattle.lists.specs.Ranges.{is_size, checked_size, checked_bound}
+use Rattle.recurrences.specs.Ranges.{is_size, checked_size, checked_bound}
 use Rattle.lists.specs.Rings.{size_of}
 use Rattle.lists.specs.Text.{cells, count_of, matrices_of, text}
-use Rattle.lists.specs.Write.{checked_multiple, all_codes, checked_codes, checked_text, checked_list}
+use Rattle.recurrences.specs.Codes.{all_codes}
+use Rattle.lists.specs.Write.{checked_multiple, checked_codes, checked_text, checked_list}
 use Rattle.lists.specs.declared.fault.WholeFault.TheVariants.{TooLong}
 use Rattle.lists.specs.declared.fault.WriteFault.TheVariants.{OfList, OfText}
 use Rattle.lists.specs.declared.header.Header.{Header}

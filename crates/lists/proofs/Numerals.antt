@@ -1,11 +1,10 @@
 -- Laws of decimal numbers.
-use Rattle.std.proofs.Common.{◌≡◌, ℕ, zero, suc, ◌+◌, ◌-◌, ◌*◌, ◌^◌, ◌<◌, ◌≤◌, Bool, true, false, cond, not, ◌&&◌, eqb, ltb, List, [], ◌∷◌, length, get_or, Some, None, Ok, Err, decimal, Result, sym, refl, ap, ◌∙◌, arith, rules}
+use Rattle.std.proofs.Common.{◌≡◌, ℕ, zero, suc, ◌+◌, ◌-◌, ◌*◌, ◌^◌, ◌<◌, ◌≤◌, Bool, true, false, cond, not, ◌&&◌, eqb, ltb, List, [], ◌∷◌, length, get_or, Some, None, Ok, Err, decimal, sym, refl, ap, ◌∙◌, arith, rules}
 use Rattle.std.specs.Char.{is_ascii_digit}
 use Rattle.std.specs.Str.{all_ascii_digits}
 use Rattle.std.proofs.lemmas.Str.Parse.{IsNumeralModel, numerals_by_fold}
 use Rattle.std.proofs.lemmas.Fmt.{digits_decimal, digits_value-decimal, decimal-digits_value, decimal_digit, first_decimal, decimal_nonempty}
 use Rattle.std.proofs.lemmas.Bool.{le-ltb, lt-ltb, ltb-true, ltb-false, cond-true, cond-false, ne_eqb, eq-eqb, and_right}
-use Rattle.lists.specs.declared.fault.NumberFault.{NumberFault}
 use Rattle.lists.specs.declared.fault.NumberFault.TheVariants.{NotNumber}
 use Rattle.lists.specs.Numeral.{value_on, numeral_on, shortest, numeral}
 
@@ -29,7 +28,7 @@ pub digit_refused : (n c : ℕ) (cs : List ℕ) → None ≡ cond (is_ascii_digi
 digit_refused n c cs h = numeral_on_more n c cs ∙ by (is_ascii_digit c && ltb (10 * n + (c - 48)) (2 ^ 32)) h
   where
     by : (t : Bool) → None ≡ cond t (Some (10 * n + (c - 48))) None → cond t (numeral_on (10 * n + (c - 48)) cs) (Err NotNumber) ≡ Err NotNumber
-    by true e = let z : ◌≡◌ {A = ℕ} 0 1 = cc in absurd (omega arith)
+    by true e = cc
     by false e = refl
 
 pub digit_taken : (n c k : ℕ) (cs : List ℕ) → Some k ≡ cond (is_ascii_digit c && ltb (10 * n + (c - 48)) (2 ^ 32)) (Some (10 * n + (c - 48))) None → numeral_on n (c ∷ cs) ≡ numeral_on k cs
@@ -37,13 +36,10 @@ digit_taken n c k cs h = numeral_on_more n c cs ∙ by (is_ascii_digit c && ltb 
   where
     by : (t : Bool) → Some k ≡ cond t (Some (10 * n + (c - 48))) None → cond t (numeral_on (10 * n + (c - 48)) cs) (Err NotNumber) ≡ numeral_on k cs
     by true e = let same : 10 * n + (c - 48) ≡ k = cc in ap (λ (x : ℕ). numeral_on x cs) same
-    by false e = let z : ◌≡◌ {A = ℕ} 0 1 = cc in absurd (omega arith)
+    by false e = cc
 
 pub digits_end : (n : ℕ) → n < 2 ^ 32 → numeral_on n [] ≡ Ok n
 digits_end n small = cond-true (ltb n (2 ^ 32)) (Ok n) (Err NotNumber) (lt-ltb n (2 ^ 32) small)
-
-pub numeral_is : (cs : List ℕ) (r : Result ℕ NumberFault) → true ≡ shortest cs → numeral_on 0 cs ≡ r → r ≡ numeral cs
-numeral_is cs r s e = sym (cond-true (shortest cs) (numeral_on 0 cs) (Err NotNumber) (sym s) ∙ e)
 
 own : IsNumeralModel (λ ds. all_ascii_digits ds ≡ true) (value_on 0)
 own = numerals_by_fold _ (search rules) value_on (search rules)
@@ -68,9 +64,9 @@ numeral_decimal n small =
     ∙ cond-true _ (Ok (value_on 0 (decimal n))) (Err NotNumber) t ∙ ap (λ (x : ℕ). Ok x) v
 
 some_shortest : (cs : List ℕ) → shortest cs ≡ true → (0 < length cs) × (get_or cs 0 0 ≡ 48 → length cs ≡ 1)
-some_shortest [] h = let z : ◌≡◌ {A = ℕ} 0 1 = cc in absurd (omega arith)
+some_shortest [] h = cc
 some_shortest (c ∷ []) h = (omega arith, λ e. refl)
-some_shortest (c ∷ d ∷ cs) h = (omega arith, λ e. let k : eqb c 48 ≡ true = eq-eqb c 48 e in let z : ◌≡◌ {A = ℕ} 0 1 = cc in absurd (omega arith))
+some_shortest (c ∷ d ∷ cs) h = (omega arith, λ e. let k : eqb c 48 ≡ true = eq-eqb c 48 e in cc)
 
 -- what is read is as it is written
 pub decimal_numeral : (cs : List ℕ) (n : ℕ) → numeral cs ≡ Ok n → (decimal n ≡ cs) × (n < 2 ^ 32)
@@ -82,9 +78,9 @@ decimal_numeral cs n h = by (shortest cs) (all_ascii_digits cs) (ltb (value_on 0
         let low = ltb-true (value_on 0 cs) (2 ^ 32) el in
         let some = some_shortest cs es in
         (ap decimal (sym same) ∙ decimal-digits_value own cs ed some.0 some.1 (omega arith), omega arith)
-    by true true false es ed el e = let z : ◌≡◌ {A = ℕ} 0 1 = cc in absurd (omega arith)
-    by true false l es ed el e = let z : ◌≡◌ {A = ℕ} 0 1 = cc in absurd (omega arith)
-    by false d l es ed el e = let z : ◌≡◌ {A = ℕ} 0 1 = cc in absurd (omega arith)
+    by true true false es ed el e = cc
+    by true false l es ed el e = cc
+    by false d l es ed el e = cc
 
 pub decimal_digits : (n : ℕ) → n < 2 ^ 64 → all_ascii_digits (decimal n) ≡ true
 decimal_digits n wide = digits_decimal own n wide

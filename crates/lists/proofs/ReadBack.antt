@@ -15,7 +15,7 @@ use Rattle.lists.specs.Kinds.{kind_of, by_kind}
 use Rattle.lists.specs.Laws.{list_of}
 use Rattle.lists.specs.Limits.{greatest_length}
 use Rattle.lists.specs.LineChecks.{number_at, run_at, ring_at, size_at, bound_at, code_at, codes_from, checked_header, checked_matrix, checked_end}
-use Rattle.lists.specs.Ranges.{is_size, checked_size, checked_bound, checked_code}
+use Rattle.recurrences.specs.Ranges.{is_size, checked_size, checked_bound, checked_code}
 use Rattle.lists.specs.Rings.{size_of}
 use Rattle.lists.specs.Split.{split, join, first}
 use Rattle.lists.specs.Text.{header_fields, matrix_fields, end_fields, list_lines, closed, cells, count_of, matrices_of, text}
@@ -100,8 +100,8 @@ module _ (h : Header) where
 
     header_back : checked_header 1 (header_fields h) ≡ Ok h
     header_back =
-        ap (λ (o : Option RingLetter). then (ring_at 1 o) (λ g. then (size_at 1 (decimal h.size)) (λ n. then (bound_at 1 (decimal h.bound)) (λ d. Ok (record { letter = g; size = n; bound = d }))))) (letter_back h.letter)
-        ∙ ap (λ (r : Result ℕ FileFault). then r (λ n. then (bound_at 1 (decimal h.bound)) (λ d. Ok (record { letter = h.letter; size = n; bound = d }))))
+        ap (λ (o : Option RingLetter). then (ring_at 1 2 o) (λ g. then (size_at 1 3 (decimal h.size)) (λ n. then (bound_at 1 4 (decimal h.bound)) (λ d. Ok (record { letter = g; size = n; bound = d }))))) (letter_back h.letter)
+        ∙ ap (λ (r : Result ℕ FileFault). then r (λ n. then (bound_at 1 4 (decimal h.bound)) (λ d. Ok (record { letter = h.letter; size = n; bound = d }))))
         (ap (λ (r : Result ℕ FileFault). then r (λ v. run_at 1 3 (checked_size v))) (number_back 1 3 h.size size_small) ∙ ap (run_at 1 3) (cond-true (is_size h.size) (Ok h.size) (Err Size) size))
         ∙ ap (λ (r : Result ℕ FileFault). then r (λ d. Ok (record { letter = h.letter; size = h.size; bound = d })))
         (ap (λ (r : Result ℕ FileFault). then r (λ v. run_at 1 4 (checked_bound v))) (number_back 1 4 h.bound bound_small) ∙ ap (run_at 1 4) (cond-true (leb h.bound greatest_bound) (Ok h.bound) (Err Bound) (le-leb h.bound greatest_bound bound)))

@@ -1,57 +1,44 @@
 -- Laws of a text parted at a byte.
-use Rattle.std.proofs.Common.{◌≡◌, ℕ, suc, ◌+◌, ◌<◌, ◌≤◌, Bool, true, false, cond, eqb, List, [], ◌∷◌, ◌++◌, length, take, drop, sym, refl, ap, ◌∙◌, le_of_suc-le-suc, add-one, arith}
-use Rattle.std.specs.List.{AllByRecursion}
-use Rattle.std.proofs.lemmas.Bool.{cond-true, cond-false, eq-eqb, eqb-true}
-use Rattle.lists.specs.Split.{onto_first, split, join, before}
+use Rattle.std.proofs.Common.{◌≡◌, ℕ, suc, ◌+◌, ◌-◌, ◌<◌, ◌≤◌, Bool, true, false, cond, not, eqb, ltb, List, [], ◌∷◌, ◌++◌, length, take, drop, Some, None, refl, ap, ◌∙◌, arith}
+use Rattle.std.specs.List.{AllByRecursion, onto_first, position, position_or_len}
+use Rattle.std.proofs.lemmas.Bool.{cond-true, cond-false, eq-eqb, ltb-true, ltb-false}
+use Rattle.std.proofs.lemmas.List.{take_rest}
+use Rattle.std.proofs.lemmas.List.Sums.{count_by-le-length}
+use Rattle.std.proofs.lemmas.List.Splits.{slice_split_first, length-slice_split, join_with_byte-slice_split}
+use Rattle.lists.specs.Split.{split, join}
 
-split_more' : (c : ℕ) (bs : List ℕ) → before c bs < length bs → split c bs ≡ take (before c bs) bs ∷ split c (drop (before c bs + 1) bs)
-split_more' c [] h = absurd (omega arith)
-split_more' c (b ∷ bs) h = by (eqb b c) h (split_more' c bs)
+-- ---- the first part, and what is left behind it, as a range from a place on reads it
+pub split_at : (c : ℕ) (bs : List ℕ) (at : ℕ) → Some at ≡ position (λ b. eqb b c) bs → split c bs ≡ take at bs ∷ split c (take (length bs - (at + 1)) (drop (at + 1) bs))
+split_at c bs at h = rw (take_rest bs (at + 1)) (by (ltb n (length bs)) refl h)
   where
-    by : (t : Bool) → cond t 0 (suc (before c bs)) < suc (length bs) → (before c bs < length bs → split c bs ≡ take (before c bs) bs ∷ split c (drop (before c bs + 1) bs)) → cond t ([] ∷ split c bs) (onto_first b (split c bs)) ≡ take (cond t 0 (suc (before c bs))) (b ∷ bs) ∷ split c (drop (cond t 0 (suc (before c bs)) + 1) (b ∷ bs))
-    by true k ih = refl
-    by false k ih = rw add-one (ap (onto_first b) (ih (le_of_suc-le-suc k)) ∙ rw add-one)
+    n : ℕ
+    n = position_or_len (λ b. eqb b c) bs
 
-split_last' : (c : ℕ) (bs : List ℕ) → length bs ≤ before c bs → split c bs ≡ take (before c bs) bs ∷ []
-split_last' c [] h = refl
-split_last' c (b ∷ bs) h = by (eqb b c) h (split_last' c bs)
+    by : (t : Bool) → ltb n (length bs) ≡ t → Some at ≡ cond t (Some n) None → split c bs ≡ take at bs ∷ split c (drop (at + 1) bs)
+    by true e k = let same : n ≡ at = cc in slice_split_first (λ b. eqb b c) bs 0 (ltb-true n (length bs) e) ∙ ap (λ (i : ℕ). take i bs ∷ split c (drop (i + 1) bs)) same
+    by false e k = cc
+
+unmarked : (c : ℕ) (bs : List ℕ) → length bs ≤ position_or_len (λ b. eqb b c) bs → split c bs ≡ bs ∷ []
+unmarked c [] h = refl
+unmarked c (b ∷ bs) h = by (eqb b c) h (unmarked c bs)
   where
-    by : (t : Bool) → suc (length bs) ≤ cond t 0 (suc (before c bs)) → (length bs ≤ before c bs → split c bs ≡ take (before c bs) bs ∷ []) → cond t ([] ∷ split c bs) (onto_first b (split c bs)) ≡ take (cond t 0 (suc (before c bs))) (b ∷ bs) ∷ []
+    by : (t : Bool) → suc (length bs) ≤ cond (not t) (1 + position_or_len (λ b. eqb b c) bs) 0 → (length bs ≤ position_or_len (λ b. eqb b c) bs → split c bs ≡ bs ∷ []) → cond t ([] ∷ split c bs) (onto_first b (split c bs)) ≡ (b ∷ bs) ∷ []
     by true k ih = absurd (omega arith)
-    by false k ih = ap (onto_first b) (ih (le_of_suc-le-suc k))
+    by false k ih = ap (onto_first b) (ih (omega arith))
 
-pub split_more : (c : ℕ) (bs : List ℕ) (at : ℕ) (rest : List ℕ) → at ≡ before c bs → at < length bs → rest ≡ drop (at + 1) bs → split c bs ≡ take at bs ∷ split c rest
-split_more c bs at rest e h r = split_more' c bs (omega arith) ∙ ap (λ (n : ℕ). take n bs ∷ split c (drop (n + 1) bs)) (sym e) ∙ ap (λ (s : List ℕ). take at bs ∷ split c s) (sym r)
+pub split_whole : (c : ℕ) (bs : List ℕ) → None ≡ position (λ b. eqb b c) bs → split c bs ≡ bs ∷ []
+split_whole c bs h = by (ltb n (length bs)) refl h
+  where
+    n : ℕ
+    n = position_or_len (λ b. eqb b c) bs
 
-pub split_last : (c : ℕ) (bs : List ℕ) (at : ℕ) → at ≡ before c bs → length bs ≤ at → split c bs ≡ take at bs ∷ []
-split_last c bs at e h = split_last' c bs (omega arith) ∙ ap (λ (n : ℕ). take n bs ∷ []) (sym e)
+    by : (t : Bool) → ltb n (length bs) ≡ t → None ≡ cond t (Some n) None → split c bs ≡ bs ∷ []
+    by true e k = cc
+    by false e k = unmarked c bs (ltb-false n (length bs) e)
 
 -- ---- the two laws of split and join
-pub split_some : (c : ℕ) (bs : List ℕ) → 0 < length (split c bs)
-split_some c [] = omega arith
-split_some c (b ∷ bs) = by (eqb b c) (split c bs)
-  where
-    by : (t : Bool) (ps : List (List ℕ)) → 0 < length (cond t ([] ∷ ps) (onto_first b ps))
-    by true ps = omega arith
-    by false [] = omega arith
-    by false (p ∷ ps) = omega arith
-
-join_mark : (c : ℕ) (ps : List (List ℕ)) → 0 < length ps → join c ([] ∷ ps) ≡ c ∷ join c ps
-join_mark c [] h = absurd (omega arith)
-join_mark c (p ∷ ps) h = refl
-
-join_onto_first : (c b : ℕ) (ps : List (List ℕ)) → join c (onto_first b ps) ≡ b ∷ join c ps
-join_onto_first c b [] = refl
-join_onto_first c b (p ∷ []) = refl
-join_onto_first c b (p ∷ q ∷ ps) = refl
-
 pub join_split : (c : ℕ) (bs : List ℕ) → join c (split c bs) ≡ bs
-join_split c [] = refl
-join_split c (b ∷ bs) = by (eqb b c) refl (join_split c bs)
-  where
-    by : (t : Bool) → eqb b c ≡ t → join c (split c bs) ≡ bs → join c (cond t ([] ∷ split c bs) (onto_first b (split c bs))) ≡ b ∷ bs
-    by true e ih = join_mark c (split c bs) (split_some c bs) ∙ ap (λ (s : List ℕ). c ∷ s) ih ∙ ap (λ (x : ℕ). x ∷ bs) (sym (eqb-true b c e))
-    by false e ih = join_onto_first c b (split c bs) ∙ ap (λ (s : List ℕ). b ∷ s) ih
+join_split c bs = join_with_byte-slice_split c bs
 
 -- a part that has no mark in it
 abbrev pub Free : ℕ → List ℕ → Type 0
@@ -69,18 +56,9 @@ pub split_join : (c : ℕ) (p : List ℕ) (ps : List (List ℕ)) → AllByRecurs
 split_join c p [] h = split_free c p h.0
 split_join c p (q ∷ ps) h = split_front c p (join c (q ∷ ps)) h.0 ∙ ap (λ (x : List (List ℕ)). p ∷ x) (split_join c q ps h.1)
 
-pub length_split_more : (c b : ℕ) (bs : List ℕ) → length (split c (b ∷ bs)) ≡ cond (eqb b c) (suc (length (split c bs))) (length (split c bs))
-length_split_more c b bs = by (eqb b c) (split c bs) (split_some c bs)
-  where
-    by : (t : Bool) (ps : List (List ℕ)) → 0 < length ps → length (cond t ([] ∷ ps) (onto_first b ps)) ≡ cond t (suc (length ps)) (length ps)
-    by true ps h = refl
-    by false [] h = absurd (omega arith)
-    by false (p ∷ ps) h = refl
+-- ---- how many parts there are
+pub split_some : (c : ℕ) (bs : List ℕ) → 0 < length (split c bs)
+split_some c bs = omega (arith, length-slice_split (λ b. eqb b c) bs)
 
 pub length_split_le : (c : ℕ) (bs : List ℕ) → length (split c bs) ≤ length bs + 1
-length_split_le c [] = omega arith
-length_split_le c (b ∷ bs) = by (eqb b c) (length_split_more c b bs) (length_split_le c bs)
-  where
-    by : (t : Bool) → length (split c (b ∷ bs)) ≡ cond t (suc (length (split c bs))) (length (split c bs)) → length (split c bs) ≤ length bs + 1 → length (split c (b ∷ bs)) ≤ suc (length bs) + 1
-    by true e ih = omega arith
-    by false e ih = omega arith
+length_split_le c bs = omega (arith, length-slice_split (λ b. eqb b c) bs, count_by-le-length (λ b. eqb b c) bs)

@@ -1,9 +1,9 @@
 -- What is known of checks that came out well.
-use Rattle.std.proofs.Common.{◌≡◌, ℕ, Bool, true, false, cond, ◌⊎◌, Ok, Err, Result, refl, ap, inl, inr, arith}
+use Rattle.std.proofs.Common.{◌≡◌, Bool, true, false, cond, ◌⊎◌, Ok, Err, Result, refl, ap, inl, inr}
 use Rattle.lists.specs.Checks.{then, carried}
 
 pub err_ok : {X E : Type 0} {e : E} {x : X} → Err e ≡ Ok x → ⊥
-err_ok h = let z : ◌≡◌ {A = ℕ} 0 1 = cc in omega arith
+err_ok h = cc
 
 pub then_ok : {X Y E : Type 0} (r : Result X E) (f : X → Result Y E) (y : Y) → then r f ≡ Ok y → (x : X) × (r ≡ Ok x) × (f x ≡ Ok y)
 then_ok (Ok x) f y h = (x, refl, h)
@@ -19,7 +19,7 @@ cond_ok false x y e h = absurd (err_ok h)
 
 -- ---- refusals
 pub ok_err : {X E : Type 0} {x : X} {e : E} → Ok x ≡ Err e → ⊥
-ok_err h = let z : ◌≡◌ {A = ℕ} 0 1 = cc in omega arith
+ok_err h = cc
 
 -- the first step refuses, or the second does
 pub then_err : {X Y E : Type 0} (r : Result X E) (f : X → Result Y E) (e : E) → then r f ≡ Err e → (r ≡ Err e) ⊎ ((x : X) × (r ≡ Ok x) × (f x ≡ Err e))

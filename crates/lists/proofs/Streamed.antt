@@ -1,6 +1,7 @@
 -- The text of a list from left to right, and its length.
-use Rattle.std.proofs.Common.{◌≡◌, ℕ, zero, suc, ◌+◌, ◌-◌, ◌*◌, ◌/◌, ◌%◌, ◌<◌, ◌≤◌, List, [], ◌∷◌, ◌++◌, map, length, take, drop, decimal, sym, refl, ap, ◌∙◌, append_assoc, suc-mul, arith, length-append, length-drop}
-use Rattle.std.proofs.lemmas.List.{append-nil, take-append-drop, drop-drop, nil_from_length}
+use Rattle.std.proofs.Common.{◌≡◌, ℕ, zero, suc, ◌+◌, ◌*◌, ◌/◌, ◌%◌, ◌<◌, ◌≤◌, List, [], ◌∷◌, ◌++◌, map, length, take, drop, decimal, sym, refl, ap, ◌∙◌, append_assoc, suc-mul, add-one, arith, length-append, length-drop}
+use native.Mathlib.Nat.{add-div_left, div-eq_of_lt}
+use Rattle.std.proofs.lemmas.List.{append-nil, take-append-drop, take_at, drop_at, nil_from_length}
 use Rattle.lists.specs.Bytes.{line_end, comma, start_letter, matrix_letter, end_letter}
 use Rattle.lists.specs.LineText.{commaed, line_text, matrix_texts}
 use Rattle.lists.specs.Rings.{byte_of}
@@ -69,35 +70,31 @@ text_length h cs e =
 pub codes_short : (h : Header) (cs : List ℕ) → length cs % cells h ≡ 0 → length cs ≤ length (text h cs)
 codes_short h cs e = omega (arith, text_length h cs e, commaed_long cs)
 
--- the three parts of a text, by the number k of codes in a matrix
-module _ (h : Header) (cs : List ℕ) (k : ℕ) (e : k ≡ cells h) where
+-- the three parts of a text
+module _ (h : Header) (cs : List ℕ) where
   abbrev pub start_part : List ℕ
   start_part = line_text (start_of h) (h.size ∷ h.bound ∷ [])
 
   abbrev pub matrices_part : List ℕ
-  matrices_part = matrix_texts k (length cs / k) cs
+  matrices_part = matrix_texts (cells h) (count_of h cs) cs
 
   abbrev pub end_part : List ℕ
-  end_part = line_text (end_letter ∷ []) (length cs / k ∷ [])
-
-  pub text_parts : text h cs ≡ start_part ++ (matrices_part ++ end_part)
-  text_parts = text_streamed h cs ∙ ap (λ (n : ℕ). start_part ++ (matrix_texts n (length cs / n) cs ++ line_text (end_letter ∷ []) (length cs / n ∷ []))) (sym e)
+  end_part = line_text (end_letter ∷ []) (count_of h cs ∷ [])
 
   pub text_parts_length : length (text h cs) ≡ length start_part + (length matrices_part + length end_part)
-  text_parts_length = omega (arith, ap length text_parts, length-append start_part (matrices_part ++ end_part), length-append matrices_part end_part)
+  text_parts_length = omega (arith, ap length (text_streamed h cs), length-append start_part (matrices_part ++ end_part), length-append matrices_part end_part)
 
 -- ---- the lines that are left to write
-module _ (k n i : ℕ) (more : i < n) where
-  one_less : n - i ≡ suc (n - (i + 1))
-  one_less = omega arith
+module _ (k : ℕ) where
+  pub texts_more : 0 < k → (cs m rest : List ℕ) → cs ≡ m ++ rest → length m ≡ k → matrix_texts k (length cs / k) cs ≡ line_text (matrix_letter ∷ []) m ++ matrix_texts k (length rest / k) rest
+  texts_more some cs m rest e n =
+      ap (λ (x : List ℕ). matrix_texts k (length x / k) x) e
+      ∙ ap (λ (j : ℕ). matrix_texts k j (m ++ rest)) count
+      ∙ ap (λ (x : List ℕ). line_text (matrix_letter ∷ []) x ++ matrix_texts k (length rest / k) (drop k (m ++ rest))) (take_at m rest k n)
+      ∙ ap (λ (x : List ℕ). line_text (matrix_letter ∷ []) m ++ matrix_texts k (length rest / k) x) (drop_at m rest k n)
+    where
+      count : length (m ++ rest) / k ≡ suc (length rest / k)
+      count = let both : length (m ++ rest) ≡ k + length rest = omega (arith, length-append m rest) in ap (λ (j : ℕ). j / k) both ∙ add-div_left (length rest) some ∙ add-one (length rest / k)
 
-  pub codes_left : (n - i) * k ≡ k + (n - (i + 1)) * k
-  codes_left = ap (λ (m : ℕ). m * k) one_less ∙ (let s : suc (n - (i + 1)) * k ≡ k + (n - (i + 1)) * k = omega (arith, suc-mul (n - (i + 1)) k) in s)
-
-  pub texts_left : (from : ℕ) (cs : List ℕ) → matrix_texts k (n - i) (drop from cs) ≡ line_text (matrix_letter ∷ []) (take k (drop from cs)) ++ matrix_texts k (n - (i + 1)) (drop (from + k) cs)
-  texts_left from cs =
-      ap (λ (m : ℕ). matrix_texts k m (drop from cs)) one_less
-      ∙ ap (λ (xs : List ℕ). line_text (matrix_letter ∷ []) (take k (drop from cs)) ++ matrix_texts k (n - (i + 1)) xs) (drop-drop k from cs)
-
-pub no_texts_left : (k n i from : ℕ) (cs : List ℕ) → n ≤ i → matrix_texts k (n - i) (drop from cs) ≡ []
-no_texts_left k n i from cs h = let none : n - i ≡ 0 = omega arith in ap (λ (m : ℕ). matrix_texts k m (drop from cs)) none
+  pub no_texts_left : (cs : List ℕ) → length cs < k → matrix_texts k (length cs / k) cs ≡ []
+  no_texts_left cs few = ap (λ (j : ℕ). matrix_texts k j cs) (div-eq_of_lt few)

@@ -5,7 +5,7 @@ use Rattle.recurrences.specs.Limits.{greatest_bound}
 use Rattle.lists.specs.Bytes.{comma}
 use Rattle.lists.specs.Contents.{reading}
 use Rattle.lists.specs.FileChecks.{lines_of}
-use Rattle.lists.specs.Ranges.{is_size}
+use Rattle.recurrences.specs.Ranges.{is_size}
 use Rattle.lists.specs.Rings.{size_of}
 use Rattle.lists.specs.Split.{split}
 use Rattle.lists.specs.Text.{cells, list_fields, list_lines}

@@ -7,7 +7,6 @@ pub mod Rings
 pub mod Checks
 pub mod Faults
 pub mod Numbering
-pub mod Ranges
 pub mod Kinds
 pub mod LineChecks
 pub mod FileChecks

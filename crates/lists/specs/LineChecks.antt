@@ -5,7 +5,7 @@ use Rattle.lists.specs.Checks.{then, carried}
 use Rattle.lists.specs.Faults.{found, line_refused}
 use Rattle.lists.specs.Kinds.{kind_of, by_kind}
 use Rattle.lists.specs.Numeral.{numeral}
-use Rattle.lists.specs.Ranges.{checked_size, checked_bound, checked_code}
+use Rattle.recurrences.specs.Ranges.{checked_size, checked_bound, checked_code}
 use Rattle.lists.specs.Rings.{letter_of, size_of}
 use Rattle.lists.specs.Split.{first}
 use Rattle.lists.specs.declared.fault.FileFault.{FileFault}
@@ -27,22 +27,23 @@ abbrev pub run_at : ℕ → ℕ → Result ℕ Refusal → Result ℕ FileFault
 run_at line k r = carried (λ e. InRun (found line k e)) r
 
 -- ---- the header
-abbrev pub ring_at : ℕ → Option RingLetter → Result RingLetter FileFault
-ring_at line (Some g) = Ok g
-ring_at line None = line_refused Ring line 2
+-- the ring, the size and the bound of field k
+abbrev pub ring_at : ℕ → ℕ → Option RingLetter → Result RingLetter FileFault
+ring_at line k (Some g) = Ok g
+ring_at line k None = line_refused Ring line k
 
-abbrev pub size_at : ℕ → List ℕ → Result ℕ FileFault
-size_at line f = then (number_at line 3 f) (λ n. run_at line 3 (checked_size n))
+abbrev pub size_at : ℕ → ℕ → List ℕ → Result ℕ FileFault
+size_at line k f = then (number_at line k f) (λ n. run_at line k (checked_size n))
 
-abbrev pub bound_at : ℕ → List ℕ → Result ℕ FileFault
-bound_at line f = then (number_at line 4 f) (λ d. run_at line 4 (checked_bound d))
+abbrev pub bound_at : ℕ → ℕ → List ℕ → Result ℕ FileFault
+bound_at line k f = then (number_at line k f) (λ d. run_at line k (checked_bound d))
 
 abbrev pub checked_fields : ℕ → List (List ℕ) → Result Header FileFault
 checked_fields line fs =
     then (counted 4 line fs) (λ _.
-    then (ring_at line (letter_of (slice_index_or fs 1 []))) (λ g.
-    then (size_at line (slice_index_or fs 2 [])) (λ n.
-    then (bound_at line (slice_index_or fs 3 [])) (λ d.
+    then (ring_at line 2 (letter_of (slice_index_or fs 1 []))) (λ g.
+    then (size_at line 3 (slice_index_or fs 2 [])) (λ n.
+    then (bound_at line 4 (slice_index_or fs 3 [])) (λ d.
     Ok (record { letter = g; size = n; bound = d })))))
 
 abbrev pub checked_header : ℕ → List (List ℕ) → Result Header FileFault

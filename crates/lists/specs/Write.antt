@@ -1,11 +1,12 @@
 -- What write answers, and what it leaves in the place.
-use Rattle.std.specs.Prelude.{ℕ, ◌+◌, ◌%◌, Bool, true, cond, ◌&&◌, List, [], ◌∷◌, length, Ok, Err, Result, ◌==◌, nat_lt}
+use Rattle.std.specs.Prelude.{ℕ, ◌+◌, ◌%◌, cond, List, length, Ok, Err, Result, ◌==◌, nat_lt}
 use Rattle.recurrences.specs.declared.refusal.Refusal.{Refusal}
 use Rattle.recurrences.specs.declared.refusal.Refusal.TheVariants.{Length, Code}
 use Rattle.lists.specs.Checks.{then, carried}
 use Rattle.lists.specs.Limits.{greatest_length}
 use Rattle.lists.specs.Places.{written}
-use Rattle.lists.specs.Ranges.{checked_size, checked_bound}
+use Rattle.recurrences.specs.Codes.{all_codes}
+use Rattle.recurrences.specs.Ranges.{checked_size, checked_bound}
 use Rattle.lists.specs.Rings.{size_of}
 use Rattle.lists.specs.Text.{cells, text}
 use Rattle.lists.specs.declared.fault.WholeFault.{WholeFault}
@@ -18,10 +19,6 @@ use Rattle.lists.specs.declared.header.Header.{Header}
 abbrev pub checked_multiple : ℕ → List ℕ → Result (Unit {0}) Refusal
 checked_multiple k cs = cond (length cs % k == 0) (Ok tt) (Err Length)
 
-abbrev pub all_codes : ℕ → List ℕ → Bool
-all_codes q [] = true
-all_codes q (c ∷ cs) = nat_lt c q && all_codes q cs
-
 abbrev pub checked_codes : ℕ → List ℕ → Result (Unit {0}) Refusal
 checked_codes q cs = cond (all_codes q cs) (Ok tt) (Err Code)
 
@@ -29,14 +26,19 @@ checked_codes q cs = cond (all_codes q cs) (Ok tt) (Err Code)
 abbrev pub checked_text : List ℕ → Result ℕ WholeFault
 checked_text t = cond (nat_lt greatest_length (length t)) (Err TooLong) (Ok (length t))
 
--- the checks of a list in order; the answer is the length of its text
+-- the checks of a list of an accepted size and bound; the answer is the length of its text
+abbrev pub checked_contents : Header → List ℕ → Result ℕ WriteFault
+checked_contents h cs =
+    then (carried OfList (checked_multiple (cells h) cs)) (λ _.
+    then (carried OfList (checked_codes (size_of h.letter) cs)) (λ _.
+    carried OfText (checked_text (text h cs))))
+
+-- the checks of a list in order
 abbrev pub checked_list : Header → List ℕ → Result ℕ WriteFault
 checked_list h cs =
     then (carried OfList (checked_size h.size)) (λ _.
     then (carried OfList (checked_bound h.bound)) (λ _.
-    then (carried OfList (checked_multiple (cells h) cs)) (λ _.
-    then (carried OfList (checked_codes (size_of h.letter) cs)) (λ _.
-    carried OfText (checked_text (text h cs))))))
+    checked_contents h cs))
 
 -- the length of the text of a list, written into a place with room for so many bytes
 abbrev pub written_into : ℕ → Header → List ℕ → Result ℕ WriteFault

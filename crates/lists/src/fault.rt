@@ -1,5 +1,5 @@
 ghost use Rattle.std.specs.Prelude.{◌≡◌};
-ghost use Rattle.lists.specs.Faults.{located};
+ghost use Rattle.lists.specs.Faults.{found};
 ghost use Rattle.lists.specs.Numbering.{number_of, line_of, field_of, write_number};
 ghost use Rattle.lists.specs.declared.fault.FileFault.TheVariants.{InRun, InNumber, InLine, Whole};
 ghost use Rattle.lists.specs.declared.fault.WriteFault.TheVariants.{OfList, OfText};
@@ -7,14 +7,14 @@ ghost use Rattle.lists.specs.declared.fault.WriteFault.TheVariants.{OfList, OfTe
 use recurrences::Refusal;
 
 // Why a field holds no number.
-#[derive(Clone, Copy)]
+#[derive(Clone, Copy, PartialEq, Eq, Debug)]
 pub enum NumberFault {
     // It is no decimal number below 2^32, or has needless zeros in front.
     NotNumber = 15,
 }
 
 // What is wrong with a line, its numbers apart.
-#[derive(Clone, Copy)]
+#[derive(Clone, Copy, PartialEq, Eq, Debug)]
 pub enum LineFault {
     // The first field is not just the letter due.
     Letter = 13,
@@ -26,8 +26,20 @@ pub enum LineFault {
     EndCount = 17,
 }
 
+impl LineFault {
+    pub(crate) fn at(self, line: u32, field: u32) -> FileFault
+        ensures { result ≡ InLine (found line field self) }
+    {
+        FileFault::InLine(Found {
+            fault: self,
+            line,
+            field,
+        })
+    }
+}
+
 // What is wrong with a file as a whole, or with the place for an answer.
-#[derive(Clone, Copy)]
+#[derive(Clone, Copy, PartialEq, Eq, Debug)]
 pub enum WholeFault {
     // The file, or the text of a list, is longer than a file may be.
     TooLong = 10,
@@ -38,7 +50,7 @@ pub enum WholeFault {
 }
 
 // A fault with the line and the field where it was met, both counted from 1.
-#[derive(Clone, Copy)]
+#[derive(Clone, Copy, PartialEq, Eq, Debug)]
 pub struct Found<E> {
     pub fault: E,
     pub line: u32,
@@ -46,7 +58,7 @@ pub struct Found<E> {
 }
 
 // Why a file is refused.
-#[derive(Clone, Copy)]
+#[derive(Clone, Copy, PartialEq, Eq, Debug)]
 pub enum FileFault {
     Whole(WholeFault),
     InLine(Found<LineFault>),
@@ -124,7 +136,7 @@ impl From<Found<Refusal>> for FileFault {
 }
 
 // Why a list is not written.
-#[derive(Clone, Copy)]
+#[derive(Clone, Copy, PartialEq, Eq, Debug)]
 pub enum WriteFault {
     // The list itself is refused.
     OfList(Refusal),
@@ -156,14 +168,5 @@ impl From<WholeFault> for WriteFault {
 
     fn from(e: WholeFault) -> WriteFault {
         WriteFault::OfText(e)
-    }
-}
-
-pub(crate) fn found_at<T, E>(r: Result<T, E>, line: u32, field: u32) -> Result<T, Found<E>>
-    ensures { result ≡ located line field r }
-{
-    match r {
-        Ok(x) => Ok(x),
-        Err(fault) => Err(Found { fault, line, field }),
     }
 }

@@ -1,91 +1,66 @@
-ghost use Rattle.std.specs.Prelude.{◌≡◌, ◌+◌, ◌≤◌, length, ◌==◌};
-ghost use Rattle.lists.specs.Bytes.{comma};
-ghost use Rattle.lists.specs.LineChecks.{counted, number_at, ring_at, size_at, bound_at, code_at};
+ghost use Rattle.std.specs.Prelude.{◌≡◌};
+ghost use Rattle.lists.specs.Faults.{located};
+ghost use Rattle.lists.specs.LineChecks.{number_at, ring_at, size_at, bound_at, code_at};
 ghost use Rattle.lists.specs.Rings.{letter_of};
-ghost use Rattle.lists.specs.Split.{split};
 
-use crate::fault::{FileFault, Found, LineFault, found_at};
+use crate::fault::{FileFault, Found, LineFault};
 use crate::letter::{RingLetter, letter_of};
 use crate::number::read_number;
-use crate::range::{check_bound, check_code, check_size};
+use recurrences::{Bound, Refusal, Size};
 
-// How many fields stand behind the first.
-fn count_behind(bytes: &[u8]) -> usize
-    ensures { result + 1 ≡ length (split comma bytes.now) }
-{
-    let mut n: usize = 0;
-    for b in bytes {
-        if *b == b',' {
-            n += 1;
-        }
+// A field, the number of its line, and its own number in the line. Both count from 1.
+#[derive(Clone, Copy)]
+pub(crate) struct Field<'a> {
+    pub(crate) bytes: &'a [u8],
+    pub(crate) line: u32,
+    pub(crate) number: u32,
+}
+
+impl Field<'_> {
+    // A result whose fault, if any, is one of this field.
+    fn located<T, E>(self, r: Result<T, E>) -> Result<T, Found<E>>
+        ensures { result ≡ located self.entry.line self.entry.number r }
+    {
+        let (line, field) = (self.line, self.number);
+        r.map_err(|fault| Found { fault, line, field })
     }
-    n
-}
 
-// Whether just so many fields stand behind the first.
-pub(crate) fn has_fields(bytes: &[u8], behind: usize) -> bool
-    ensures { result ≡ (length (split comma bytes.now) == behind + 1) }
-{
-    count_behind(bytes) == behind
-}
-
-// The fault of a line in which not just so many fields stand behind the first.
-pub(crate) fn check_count(bytes: &[u8], behind: usize, line: u32) -> Result<(), FileFault>
-    requires { behind ≤ 16 }
-    ensures { result ≡ counted (behind + 1) line (split comma bytes.now) }
-{
-    let n = count_behind(bytes);
-    if n == behind {
-        return Ok(());
+    pub(crate) fn value(self) -> Result<u32, FileFault>
+        ensures { result ≡ number_at self.entry.line self.entry.number self.entry.bytes.now }
+    {
+        Ok(self.located(read_number(self.bytes))?)
     }
-    let fewer = if n < behind { n } else { behind };
-    Err(FileFault::InLine(Found {
-        fault: LineFault::Count,
-        line,
-        field: fewer as u32 + 2,
-    }))
-}
 
-pub(crate) fn read_number_at(field: &[u8], line: u32, k: u32) -> Result<u32, FileFault>
-    ensures { result ≡ number_at line k field.now }
-{
-    let v = found_at(read_number(field), line, k)?;
-    Ok(v)
-}
-
-pub(crate) fn read_ring_at(field: &[u8], line: u32) -> Result<RingLetter, FileFault>
-    ensures { result ≡ ring_at line (letter_of field.now) }
-{
-    match letter_of(field) {
-        Some(letter) => Ok(letter),
-        None => Err(FileFault::InLine(Found {
-            fault: LineFault::Ring,
-            line,
-            field: 2,
-        })),
+    pub(crate) fn ring(self) -> Result<RingLetter, FileFault>
+        ensures { result ≡ ring_at self.entry.line self.entry.number (letter_of self.entry.bytes.now) }
+    {
+        Ok(self.located(letter_of(self.bytes).ok_or(LineFault::Ring))?)
     }
-}
 
-pub(crate) fn read_size_at(field: &[u8], line: u32) -> Result<u32, FileFault>
-    ensures { result ≡ size_at line field.now }
-{
-    let v = read_number_at(field, line, 3)?;
-    let n = found_at(check_size(v), line, 3)?;
-    Ok(n)
-}
+    pub(crate) fn size(self) -> Result<Size, FileFault>
+        ensures { result ≡ size_at self.entry.line self.entry.number self.entry.bytes.now }
+    {
+        let rows = self.value()? as usize;
+        Ok(self.located(Size::try_from(rows))?)
+    }
 
-pub(crate) fn read_bound_at(field: &[u8], line: u32) -> Result<u32, FileFault>
-    ensures { result ≡ bound_at line field.now }
-{
-    let v = read_number_at(field, line, 4)?;
-    let d = found_at(check_bound(v), line, 4)?;
-    Ok(d)
-}
+    pub(crate) fn bound(self) -> Result<Bound, FileFault>
+        ensures { result ≡ bound_at self.entry.line self.entry.number self.entry.bytes.now }
+    {
+        let degree = self.value()? as usize;
+        Ok(self.located(Bound::try_from(degree))?)
+    }
 
-pub(crate) fn read_code_at(q: u64, field: &[u8], line: u32, k: u32) -> Result<u32, FileFault>
-    ensures { result ≡ code_at q line k field.now }
-{
-    let v = read_number_at(field, line, k)?;
-    let c = found_at(check_code(q, v), line, k)?;
-    Ok(c)
+    // The code of the ring of size q.
+    pub(crate) fn code(self, q: u64) -> Result<u32, FileFault>
+        ensures { result ≡ code_at q self.entry.line self.entry.number self.entry.bytes.now }
+    {
+        let code = self.value()?;
+        let checked = if u64::from(code) < q {
+            Ok(code)
+        } else {
+            Err(Refusal::Code)
+        };
+        Ok(self.located(checked)?)
+    }
 }

@@ -2,7 +2,7 @@ ghost use Rattle.std.specs.Prelude.{◌≡◌};
 ghost use Rattle.lists.specs.Kinds.{kind_of};
 
 // The kind of a line.
-#[derive(Clone, Copy)]
+#[derive(Clone, Copy, PartialEq, Eq, Debug)]
 pub(crate) enum Kind {
     Start,
     Matrix,
@@ -12,13 +12,10 @@ pub(crate) enum Kind {
 pub(crate) fn kind_of(field: &[u8]) -> Option<Kind>
     ensures { result ≡ kind_of field.now }
 {
-    if field.len() != 1 {
-        return None;
-    }
-    match field[0] as char {
-        'S' => Some(Kind::Start),
-        'M' => Some(Kind::Matrix),
-        'E' => Some(Kind::End),
+    match field {
+        b"S" => Some(Kind::Start),
+        b"M" => Some(Kind::Matrix),
+        b"E" => Some(Kind::End),
         _ => None,
     }
 }

@@ -4,7 +4,7 @@ ghost use Rattle.lists.specs.Rings.{byte_of, size_of, letter_of};
 use rings::{Binary, Bytes, Mod101, Ring, Words};
 
 // The letter of a ring: bits, numbers modulo 101, bytes, words of 32 bits.
-#[derive(Clone, Copy)]
+#[derive(Clone, Copy, PartialEq, Eq, Debug)]
 pub enum RingLetter {
     B,
     P,
@@ -40,14 +40,11 @@ impl RingLetter {
 pub(crate) fn letter_of(field: &[u8]) -> Option<RingLetter>
     ensures { result ≡ letter_of field.now }
 {
-    if field.len() != 1 {
-        return None;
-    }
-    match field[0] as char {
-        'B' => Some(RingLetter::B),
-        'P' => Some(RingLetter::P),
-        'Y' => Some(RingLetter::Y),
-        'W' => Some(RingLetter::W),
+    match field {
+        b"B" => Some(RingLetter::B),
+        b"P" => Some(RingLetter::P),
+        b"Y" => Some(RingLetter::Y),
+        b"W" => Some(RingLetter::W),
         _ => None,
     }
 }

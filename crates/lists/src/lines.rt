@@ -1,4 +1,5 @@
-ghost use Rattle.std.specs.Prelude.{◌≡◌, ◌+◌, ◌-◌, ◌≤◌, [], ◌∷◌, length, drop, Some, None, Ok, ◌==◌, slice_index};
+ghost use Rattle.std.specs.Prelude.{◌≡◌, ◌+◌, ◌-◌, ◌≤◌, [], ◌∷◌, length, drop, MatchOption, Some, None, Ok, ◌==◌, slice_index};
+ghost use Rattle.std.specs.Iterator.{item_count};
 ghost use Rattle.lists.specs.Bytes.{line_end};
 ghost use Rattle.lists.specs.Limits.{greatest_length};
 ghost use Rattle.lists.specs.Cursor.{left};
@@ -6,31 +7,24 @@ ghost use Rattle.lists.specs.FileChecks.{lines_of, lines_handed, opened};
 
 use crate::fault::WholeFault;
 use crate::limits::GREATEST_LENGTH;
+use crate::line::Line;
 use crate::parts::Parts;
-
-// One line of a file without its end. Lines count from 1.
-#[derive(Clone, Copy)]
-pub struct Line<'a> {
-    pub bytes: &'a [u8],
-    pub number: u32,
-}
 
 // The lines of a file that are left to hand out, and how many were handed out.
 #[derive(Clone, Copy)]
 pub struct Lines<'a> {
-    parts: Parts<'a>,
+    parts: Parts<'a, b'\n'>,
     number: u32,
-    ghost marked: { parts.mark ≡ line_end },
     ghost few: { number + length (left line_end parts.rest) ≤ greatest_length },
 }
 
 fn ends_line(file: &[u8]) -> bool
     ensures { result ≡ (slice_index file.now (length file.now - 1) == line_end) }
 {
-    if file.len() == 0 {
-        return false;
+    match file {
+        [.., last] => *last == b'\n',
+        [] => false,
     }
-    file[file.len() - 1] == b'\n'
 }
 
 // Whether a file is short enough and ended by a line end.
@@ -47,13 +41,12 @@ pub(crate) fn check_opened(file: &[u8]) -> Result<(), WholeFault>
     }
 }
 
-fn lines_in(file: &[u8]) -> Parts<'_>
+fn lines_in(file: &[u8]) -> Parts<'_, b'\n'>
     requires ended { opened file.now ≡ Ok tt }
-    ensures mark { result.mark ≡ line_end }
     ensures all { left line_end result.rest ≡ lines_of file.now }
     ensures few { length (left line_end result.rest) ≤ greatest_length }
 {
-    Parts::new(&file[0..file.len() - 1], b'\n')
+    Parts::new(&file[0..file.len() - 1])
 }
 
 impl<'a> Lines<'a> {
@@ -62,16 +55,11 @@ impl<'a> Lines<'a> {
         ensures all { left line_end result.parts.rest ≡ lines_handed (opened file.now) file.now }
         ensures number { result.number ≡ 0 }
     {
-        match check_opened(file) {
-            Ok(_) => Lines {
-                parts: lines_in(file),
-                number: 0,
-            },
-            Err(_) => Lines {
-                parts: Parts::none(b'\n'),
-                number: 0,
-            },
-        }
+        let parts = match check_opened(file) {
+            Ok(_) => lines_in(file),
+            Err(_) => Parts::none(),
+        };
+        Lines { parts, number: 0 }
     }
 
     // How many lines were handed out.
@@ -87,15 +75,23 @@ impl<'a> Lines<'a> {
         ensures handed { left line_end self.old.parts.rest ≡ elim result [ None ↦ [] | Some l ↦ l.bytes.now ∷ left line_end self.new.parts.rest ] }
         ensures rest { left line_end self.new.parts.rest ≡ drop 1 (left line_end self.old.parts.rest) }
     {
-        match self.parts.next_part() {
-            None => None,
-            Some(bytes) => {
-                self.number += 1;
-                Some(Line {
-                    bytes,
-                    number: self.number,
-                })
-            }
-        }
+        self.next()
+    }
+}
+
+impl<'a> Iterator for Lines<'a> {
+    type Item = Line<'a>;
+
+    ghost next_gives = { λ s r t. MatchOption r ((left line_end s.parts.rest ≡ []) × (left line_end t.parts.rest ≡ []) × (t.number ≡ s.number)) (λ l. (left line_end s.parts.rest ≡ l.bytes.now ∷ left line_end t.parts.rest) × (l.number ≡ s.number + 1) × (t.number ≡ s.number + 1)) };
+
+    ghost remaining = { item_count (λ s. left line_end s.parts.rest) };
+
+    fn next(&mut self) -> Option<Line<'a>> {
+        let bytes = self.parts.next()?;
+        self.number += 1;
+        Some(Line {
+            bytes,
+            number: self.number,
+        })
     }
 }

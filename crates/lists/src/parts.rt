@@ -1,108 +1,66 @@
-ghost use Rattle.std.specs.Prelude.{◌≡◌, ◌≤◌, [], ◌∷◌, length, take, drop, Some, None, slice_index_or};
-ghost use Rattle.lists.specs.Split.{before, split, first};
+ghost use Rattle.std.specs.Prelude.{◌≡◌, ◌==◌, [], drop};
+ghost use Rattle.std.specs.Iterator.{YieldsFirstRef, item_count};
+ghost use Rattle.std.specs.List.{count_by, position};
+ghost use Rattle.lists.specs.Split.{split};
 ghost use Rattle.lists.specs.Cursor.{left};
 
-// What is left of a text that is handed out part by part, each up to the next mark.
+// What is left of a text that is handed out part by part, each up to the next mark. The type of std's `split` names a closure, so
+// that no field could hold it.
 #[derive(Clone, Copy)]
-pub(crate) struct Parts<'a> {
+pub(crate) struct Parts<'a, const MARK: u8> {
     rest: Option<&'a [u8]>,
-    mark: u8,
 }
 
-// Where the first part ends.
-fn end_of(bytes: &[u8], mark: u8) -> usize
-    ensures within { result ≤ length bytes.now }
-    ensures value { result ≡ before mark bytes.now }
+fn mark_in(bytes: &[u8], mark: u8) -> Option<usize>
+    ensures { result ≡ position (λ b. b == mark) bytes.now }
 {
-    let mut i: usize = 0;
-    while i < bytes.len() && bytes[i] != mark {
-        i += 1;
-    }
-    i
+    bytes.iter().position(|b| *b == mark)
 }
 
-fn from_place(bytes: &[u8], at: usize) -> &[u8]
-    requires { at ≤ length bytes.now }
-    ensures { result.now ≡ drop at bytes.now }
+// `filter` and `count` in place of the loop made a read up to a third slower.
+pub(crate) fn count_marks(bytes: &[u8], mark: u8) -> usize
+    ensures { result ≡ count_by (λ b. b == mark) bytes.now }
 {
-    &bytes[at..]
-}
-
-// What is left behind the first part.
-fn behind(bytes: &[u8], mark: u8, at: usize) -> Option<&[u8]>
-    requires { at ≡ before mark bytes.now }
-    ensures { split mark bytes.now ≡ take at bytes.now ∷ left mark result }
-{
-    if at < bytes.len() {
-        Some(from_place(bytes, at + 1))
-    } else {
-        None
-    }
-}
-
-pub(crate) fn first_part(bytes: &[u8], mark: u8) -> &[u8]
-    ensures { result.now ≡ first (split mark bytes.now) }
-{
-    let at = end_of(bytes, mark);
-    let _rest = behind(bytes, mark, at);
-    &bytes[0..at]
-}
-
-// A part by its place, counted from 0; empty where there is none.
-pub(crate) fn part_at(bytes: &[u8], mark: u8, k: usize) -> &[u8]
-    ensures { result.now ≡ slice_index_or (split mark bytes.now) k [] }
-{
-    let mut parts = Parts::new(bytes, mark);
-    for _i in 0..k {
-        let _ = parts.next_part();
-    }
-    match parts.next_part() {
-        Some(part) => part,
-        None => &bytes[0..0],
-    }
-}
-
-impl<'a> Parts<'a> {
-    pub(crate) fn new(text: &'a [u8], mark: u8) -> Parts<'a>
-        ensures left { left mark result.rest ≡ split mark text.now }
-        ensures mark { result.mark ≡ mark }
-    {
-        Parts {
-            rest: Some(text),
-            mark,
+    let mut n = 0;
+    for b in bytes {
+        if *b == mark {
+            n += 1;
         }
     }
+    n
+}
 
-    pub(crate) fn none(mark: u8) -> Parts<'a>
-        ensures left { left mark result.rest ≡ [] }
-        ensures mark { result.mark ≡ mark }
+impl<'a, const MARK: u8> Parts<'a, MARK> {
+    pub(crate) fn new(text: &'a [u8]) -> Parts<'a, MARK>
+        ensures { left MARK result.rest ≡ split MARK text.now }
     {
-        Parts { rest: None, mark }
+        Parts { rest: Some(text) }
     }
 
-    pub(crate) fn behind_first(text: &'a [u8], mark: u8) -> Parts<'a>
-        ensures left { left mark result.rest ≡ drop 1 (split mark text.now) }
-        ensures mark { result.mark ≡ mark }
+    pub(crate) fn none() -> Parts<'a, MARK>
+        ensures { left MARK result.rest ≡ [] }
     {
-        let at = end_of(text, mark);
-        Parts {
-            rest: behind(text, mark, at),
-            mark,
-        }
+        Parts { rest: None }
     }
+}
 
-    // The next part, or none where all were handed out.
-    pub(crate) fn next_part(&mut self) -> Option<&'a [u8]>
-        ensures mark { self.new.mark ≡ self.old.mark }
-        ensures rest { left self.old.mark self.new.rest ≡ drop 1 (left self.old.mark self.old.rest) }
-        ensures handed { left self.old.mark self.old.rest ≡ elim result [ None ↦ [] | Some p ↦ p.now ∷ left self.old.mark self.new.rest ] }
-    {
-        match self.rest {
-            None => None,
-            Some(rest) => {
-                let at = end_of(rest, self.mark);
-                self.rest = behind(rest, self.mark, at);
-                Some(&rest[0..at])
+impl<'a, const MARK: u8> Iterator for Parts<'a, MARK> {
+    type Item = &'a [u8];
+
+    ghost next_gives = { YieldsFirstRef (λ s. left MARK s.rest) };
+
+    ghost remaining = { item_count (λ s. left MARK s.rest) };
+
+    fn next(&mut self) -> Option<&'a [u8]> {
+        let rest = self.rest?;
+        match mark_in(rest, MARK) {
+            Some(at) => {
+                self.rest = Some(&rest[at + 1..]);
+                Some(&rest[..at])
+            }
+            None => {
+                self.rest = None;
+                Some(rest)
             }
         }
     }

@@ -17,10 +17,8 @@ pub(crate) fn put_bytes(place: &mut [u8], at: usize, bytes: &[u8]) -> usize
     ensures next { result ≡ at + length bytes.now }
     ensures place { place.new ≡ written at bytes.now place.old }
 {
-    let mut next = at;
-    for b in bytes {
-        next = put(place, next, *b);
-    }
+    let next = at + bytes.len();
+    place[at..next].copy_from_slice(bytes);
     next
 }
 
@@ -43,5 +41,5 @@ pub(crate) fn digits_of(n: u32) -> usize
     ensures value { result ≡ length (decimal n) }
     ensures few { result ≤ 10 }
 {
-    if n < 10 { 1 } else { digits_of(n / 10) + 1 }
+    n.checked_ilog10().unwrap_or(0) as usize + 1
 }

@@ -1,6 +1,6 @@
 ghost use Rattle.std.specs.Prelude.{◌≡◌, ◌+◌, ◌≤◌, length};
 ghost use Rattle.lists.specs.Bytes.{line_end};
-ghost use Rattle.lists.specs.Contents.{flat, matrices_in, is_matrix, line_codes, reading};
+ghost use Rattle.lists.specs.Contents.{flat, matrices_in, line_codes, reading};
 ghost use Rattle.lists.specs.Cursor.{left};
 ghost use Rattle.lists.specs.Laws.{LawfulRead};
 ghost use Rattle.lists.specs.Limits.{least_place};
@@ -10,42 +10,32 @@ ghost use Rattle.lists.specs.Read.{read_into, read_answer, read_place};
 use crate::body::check_lines;
 use crate::fault::{FileFault, WholeFault};
 use crate::header::Listing;
-use crate::kind::{Kind, kind_of};
+use crate::kind::Kind;
 use crate::limits::{GREATEST_LENGTH, LEAST_PLACE};
+use crate::line::Line;
 use crate::lines::{Lines, check_opened};
 use crate::matrix_line::put_matrix;
-use crate::parts::first_part;
-
-fn is_matrix(line: &[u8]) -> bool
-    ensures { result ≡ is_matrix line.now }
-{
-    match kind_of(first_part(line, b',')) {
-        Some(Kind::Matrix) => true,
-        _ => false,
-    }
-}
 
 // Writes the codes of a line, if it is a matrix line.
-fn put_line(bytes: &[u8], place: &mut [u32], at: usize) -> usize
-    requires { at + length (line_codes bytes.now) ≤ length place.old }
-    ensures next { result ≡ at + length (line_codes bytes.now) }
-    ensures place { place.new ≡ written at (line_codes bytes.now) place.old }
+fn put_line(line: Line<'_>, place: &mut [u32], at: usize) -> usize
+    requires { at + length (line_codes line.bytes.now) ≤ length place.old }
+    ensures next { result ≡ at + length (line_codes line.entry.bytes.now) }
+    ensures place { place.new ≡ written at (line_codes line.entry.bytes.now) place.old }
 {
-    if is_matrix(bytes) {
-        put_matrix(bytes, place, at)
-    } else {
-        at
+    match line.kind() {
+        Some(Kind::Matrix) => put_matrix(line, place, at),
+        _ => at,
     }
 }
 
 // Writes the codes of all matrix lines that are left.
-fn put_codes(mut lines: Lines<'_>, place: &mut [u32])
+fn put_codes(lines: Lines<'_>, place: &mut [u32])
     requires { length (flat (matrices_in (left line_end lines.parts.rest))) ≤ length place.old }
     ensures { place.new ≡ written 0 (flat (matrices_in (left line_end lines.entry.parts.rest))) place.old }
 {
     let mut at: usize = 0;
-    while let Some(line) = lines.next_line() {
-        at = put_line(line.bytes, place, at);
+    for line in lines {
+        at = put_line(line, place, at);
     }
 }
 

@@ -1,53 +1,62 @@
-use crate::answers::{mark, same_answer};
 use crate::mod7::Mod7;
-use crate::scripts::{DUE, SCRIPT};
+use crate::scripts::{CALLS, SCRIPT};
+use crate::tell::tell;
+use cases::Tally;
 use recurrences::Refusal;
 use rings::{Field, Ring};
 use runs::replay::replay;
 use runs::script::Answer;
-use std::io;
+use std::{fmt, io};
 
-// How many calls the script has.
-const CALLS: usize = 22;
+// What a call answered, as it is told.
+#[derive(Drop)]
+struct Told(Answer);
 
-fn print_answers(
-    rt: &HostRuntime,
-    answers: &[Answer; CALLS],
-    due: &[Answer; CALLS],
-) -> io::Result<()> {
-    for i in 0..CALLS {
-        let mark = mark(same_answer(answers[i], due[i]));
-        print!(rt; "answer {i}: ")?;
-        match answers[i] {
-            Answer::Done => println!(rt; "done, {mark}")?,
-            Answer::Stands(_) => println!(rt; "stands, {mark}")?,
+impl fmt::Display for Told {
+    fn fmt<W: fmt::Write>(&self, f: &mut fmt::Formatter<W>) -> fmt::Result {
+        match self.0 {
+            Answer::Done => f.write_str("done"),
+            Answer::Stands(_) => f.write_str("stands"),
             Answer::Refused(refusal) => {
                 let number = refusal.number();
-                println!(rt; "refused with {number}, {mark}")?
+                write!(f, "refused with {number}")
             }
         }
+    }
+}
+
+// Replays the script into places for answers.
+fn replay_into(size: usize, bound: usize, answers: &mut [Answer]) -> Result<(), Refusal> {
+    replay(Mod7, size, bound, &SCRIPT.map(|(call, _)| call), answers)
+}
+
+// What each call of the script answers.
+pub fn replayed(tally: &mut Tally<'_>) -> io::Result<()> {
+    let mut answers = [Answer::Done; CALLS];
+    let came = replay_into(2, 3, &mut answers);
+    tell(tally, "the script is replayed", came.is_ok())?;
+    for (i, (answer, (_, due))) in answers.iter().zip(&SCRIPT).enumerate() {
+        let told = Told(*answer);
+        tell(tally, format_args!("answer {i}: {told}"), answer == due)?;
     }
     Ok(())
 }
 
-pub fn replayed(rt: &HostRuntime) -> io::Result<()> {
+// Replays that are refused.
+pub fn refused(tally: &mut Tally<'_>) -> io::Result<()> {
     let mut answers = [Answer::Done; CALLS];
-    let came = replay(Mod7, 2, 3, &SCRIPT, &mut answers);
-    let mark = mark(came.is_ok());
-    println!(rt; "the script is replayed, {mark}")?;
-    print_answers(rt, &answers, &DUE)
-}
-
-fn is_refused(size: usize, bound: usize, answers: &mut [Answer], due: Refusal) -> bool {
-    replay(Mod7, size, bound, &SCRIPT, answers).err() == Some(due)
-}
-
-pub fn refused(rt: &HostRuntime) -> io::Result<()> {
-    let mut answers = [Answer::Done; CALLS];
-    let size = mark(is_refused(5, 3, &mut answers, Refusal::Size));
-    let bound = mark(is_refused(2, 65, &mut answers, Refusal::Bound));
-    let length = mark(is_refused(2, 3, &mut answers[0..21], Refusal::Length));
-    println!(rt; "a size of 5 is refused, {size}")?;
-    println!(rt; "a bound of 65 is refused, {bound}")?;
-    println!(rt; "a list one answer short is refused, {length}")
+    let size = replay_into(5, 3, &mut answers);
+    tell(tally, "a size of 5 is refused", size == Err(Refusal::Size))?;
+    let bound = replay_into(2, 65, &mut answers);
+    tell(
+        tally,
+        "a bound of 65 is refused",
+        bound == Err(Refusal::Bound),
+    )?;
+    let length = replay_into(2, 3, &mut answers[0..CALLS - 1]);
+    tell(
+        tally,
+        "a list one answer short is refused",
+        length == Err(Refusal::Length),
+    )
 }

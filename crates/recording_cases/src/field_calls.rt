@@ -1,89 +1,83 @@
-use crate::forms::Form;
-use crate::ring_calls::{GREATEST_CODE, ring_call};
+use crate::answers::Answer;
+use crate::ring_calls::{code, ring_call};
 use crate::shown::look_at;
-use cases::{CODES, Values};
+use cases::Part::{self, Word};
+use cases::{CallError, written};
 use recurrences::Refusal;
 use rings::{Field, Ring};
 use runs::run::Run;
+use std::alloc::Global;
 
-fn inverse<F: Field>(field: F, a: usize, came: &mut Values) -> Form {
-    if a > GREATEST_CODE {
-        return Form::Unknown;
-    }
-    match field.inverse(a as u32) {
-        None => Form::Absent,
-        Some(b) => {
-            came.numbers[0] = b as usize;
-            Form::Number
-        }
-    }
-}
+// What a code of a place is before a call writes it.
+const BLANK: u32 = 4294967295;
 
 // Offers the same matrix so often, up to the first refusal.
 fn offer<F: Field>(run: &mut Run<F>, times: usize, matrix: &[u32]) -> Result<(), Refusal> {
     for _ in 0..times {
-        if let Err(refusal) = run.offer(matrix) {
-            return Err(refusal);
-        }
+        run.offer(matrix)?;
     }
     Ok(())
 }
 
-fn call<F: Field>(
+// What a call wrote into the place that was lent to it.
+fn placed(answer: Result<(), Refusal>, place: Vec<u32>) -> Result<Answer, CallError> {
+    match answer {
+        Ok(()) => Ok(Answer::Codes(place)),
+        Err(refusal) => {
+            written(place, 0, BLANK)?;
+            Ok(Answer::Refused(refusal))
+        }
+    }
+}
+
+fn call_on<F: Field>(
+    alloc: Global,
     field: F,
     run: &mut Run<F>,
-    form: Form,
-    given: &Values,
-    came: &mut Values,
-) -> Form {
-    let [_, a, b, ..] = given.numbers;
-    let answer = match form {
-        Form::New => {
+    call: &[Part<'_>],
+) -> Result<Answer, CallError> {
+    match call {
+        [Word("run"), _] => {
             *run = Run::new(field);
-            Ok(())
+            Ok(Answer::Done)
         }
-        Form::Start => run.start(field, a, b),
-        Form::Offer => offer(run, 1, given.list(0, a)),
-        Form::Offers if a > 0 => offer(run, a, given.list(0, b)),
-        Form::Column if b <= CODES => run.column(a, &mut came.codes[0..b]),
-        Form::Continuation if b <= CODES => run.continuation(a, &mut came.codes[0..b]),
-        Form::Inverse => return inverse(field, a, came),
-        _ => return ring_call(field, form, given, came),
-    };
-    match (answer, form) {
-        (Ok(()), Form::Column | Form::Continuation) => {
-            came.numbers[0] = b;
-            Form::Codes
+        [Word("start"), _, Word("size"), size, Word("bound"), bound] => {
+            Ok(run.start(field, size.number()?, bound.number()?).into())
         }
-        (Ok(()), _) => Form::Done,
-        (Err(refusal), _) => {
-            came.numbers[0] = refusal.number() as usize;
-            Form::Refused
+        [Word("offer"), _, matrix] => Ok(run.offer(matrix.codes()?).into()),
+        [Word("offer"), _, times, Word("times"), matrix] => match times.number()? {
+            0 => Err(CallError::NotUnderstood),
+            times => Ok(offer(run, times, matrix.codes()?).into()),
+        },
+        [Word("standing"), _] => Ok(Answer::Stands(run.standing())),
+        [Word("column"), _, number, Word("place"), length] => {
+            let mut place = vec![in alloc; BLANK; length.number()?]?;
+            placed(run.column(number.number()?, &mut place), place)
         }
+        [Word("continuation"), _, count, Word("place"), length] => {
+            let mut place = vec![in alloc; BLANK; length.number()?]?;
+            placed(run.continuation(count.number()?, &mut place), place)
+        }
+        [Word("inverse"), _, a] => Ok(match field.inverse(code(a)?) {
+            Some(b) => Answer::Number(b),
+            None => Answer::Absent,
+        }),
+        _ => ring_call(field, call),
     }
 }
 
 // A call on a field, or on the run over it. Unless it is done, the run should stay as it was.
 pub fn field_call<F: Field>(
+    alloc: Global,
     field: F,
     run: &mut Run<F>,
-    form: Form,
-    given: &Values,
-    came: &mut Values,
-) -> Form {
+    call: &[Part<'_>],
+) -> Result<Answer, CallError> {
     let before = look_at(run);
-    if let Form::Standing = form {
-        came.numbers = before.values.numbers;
-        return before.phase;
-    }
-    let answer = call(field, run, form, given, came);
-    if let Form::Done = answer {
-        return answer;
-    }
-    let after = look_at(run);
-    if before.phase as u8 == after.phase as u8 && before.values.same(&after.values) {
-        answer
+    let answer = call_on(alloc, field, run, call)?;
+    if answer == Answer::Done || before == look_at(run) {
+        Ok(answer)
     } else {
-        Form::Changed
+        Ok(Answer::ChangedRun)
     }
 }

@@ -1,14 +1,14 @@
 #![tactic(auto)]
 
+mod answers;
 mod called_runs;
 mod field_calls;
-mod forms;
 mod ring_calls;
 mod shown;
 
 use crate::called_runs::CalledRuns;
 use cases::try_cases;
-use rings::{Binary, Bytes, Field, Mod101, Ring};
+use rings::{Binary, Bytes, Mod101};
 use runs::run::Run;
 use std::io;
 

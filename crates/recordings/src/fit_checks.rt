@@ -1,8 +1,10 @@
-use crate::tally::Tally;
+use crate::lettered::Lettered;
+use crate::shown::Refused;
+use crate::trials::{Trial, Trials};
 use recurrences::Refusal;
 use recurrences::fits::fits;
 use rings::Ring;
-use std::io;
+use std::{fmt, io};
 
 // A fit check: what is tried, in words, and what is due.
 #[derive(Clone, Copy)]
@@ -15,25 +17,35 @@ pub struct FitCheck<'a> {
     pub due: Result<Option<(usize, usize)>, Refusal>,
 }
 
-pub fn fit_check<R: Ring>(
-    rt: &HostRuntime,
-    tally: &mut Tally,
-    letter: char,
-    ring: R,
-    check: FitCheck<'_>,
-) -> io::Result<()> {
-    let came = fits(ring, check.size, check.degree, check.list, check.column);
-    let mark = tally.count(came == check.due);
-    let size = check.size;
-    let degree = check.degree;
-    let what = check.what;
-    print!(rt; "{letter}, size {size}, degree {degree}, {what}: ")?;
-    match came {
-        Ok(None) => println!(rt; "fits, {mark}"),
-        Ok(Some((place, row))) => println!(rt; "fails at place {place}, row {row}, {mark}"),
-        Err(refusal) => {
-            let number = refusal.number();
-            println!(rt; "refused with {number}, {mark}")
+// What a fit check came to.
+#[derive(Drop)]
+struct Fit(Result<Option<(usize, usize)>, Refusal>);
+
+impl fmt::Display for Fit {
+    fn fmt<W: fmt::Write>(&self, f: &mut fmt::Formatter<W>) -> fmt::Result {
+        match self.0 {
+            Ok(None) => f.write_str("fits"),
+            Ok(Some((place, row))) => write!(f, "fails at place {place}, row {row}"),
+            Err(refusal) => Refused(refusal).fmt(f),
         }
+    }
+}
+
+impl<R: Lettered> Trial<R> for FitCheck<'_> {
+    fn carry_out(&self, trials: &mut Trials<'_, '_, R>) -> io::Result<()> {
+        let FitCheck {
+            what,
+            size,
+            degree,
+            list,
+            column,
+            due,
+        } = *self;
+        let came = fits(trials.ring(), size, degree, list, column);
+        let fit = Fit(came);
+        trials.tell(
+            format_args!(", size {size}, degree {degree}, {what}: {fit}"),
+            came == due,
+        )
     }
 }

@@ -1,11 +1,13 @@
-use crate::run_checks::{Check, run_checks};
-use crate::tally::Tally;
+use crate::checks::Check;
+use crate::recording::Recording;
+use crate::trials::try_all;
+use cases::Tally;
 use recurrences::{Phase, Refusal};
 use rings::{Bytes, Mod101};
 use std::io;
 
 // A machine of five states, watched in three lanes until it settles.
-pub const THREE_LANES_MOD101: [Check<'static>; 14] = [
+pub const THREE_LANES_MOD101: &[Check<'static>] = &[
     Check::Start(3, 5, Ok(())),
     Check::Standing(Phase::Running, [0, 0, 0, 1], [0, 0, 0, 0], [1, 1, 1, 0]),
     Check::Offer(&[49, 55, 26, 92, 57, 73, 12, 31, 11], Ok(())),
@@ -26,7 +28,7 @@ pub const THREE_LANES_MOD101: [Check<'static>; 14] = [
 ];
 
 // A machine of six states, watched in four lanes until it settles.
-pub const FOUR_LANES_MOD101: [Check<'static>; 15] = [
+pub const FOUR_LANES_MOD101: &[Check<'static>] = &[
     Check::Start(4, 6, Ok(())),
     Check::Standing(Phase::Running, [0, 0, 0, 1], [0, 0, 0, 0], [1, 1, 1, 1]),
     Check::Offer(
@@ -68,7 +70,7 @@ pub const FOUR_LANES_MOD101: [Check<'static>; 15] = [
 ];
 
 // A machine of five states, watched in three lanes until it settles.
-pub const THREE_LANES_BYTES: [Check<'static>; 14] = [
+pub const THREE_LANES_BYTES: &[Check<'static>] = &[
     Check::Start(3, 5, Ok(())),
     Check::Standing(Phase::Running, [0, 0, 0, 1], [0, 0, 0, 0], [1, 1, 1, 0]),
     Check::Offer(&[163, 142, 42, 163, 16, 111, 47, 16, 105], Ok(())),
@@ -89,7 +91,7 @@ pub const THREE_LANES_BYTES: [Check<'static>; 14] = [
 ];
 
 // A machine of six states, watched in four lanes until it settles.
-pub const FOUR_LANES_BYTES: [Check<'static>; 15] = [
+pub const FOUR_LANES_BYTES: &[Check<'static>] = &[
     Check::Start(4, 6, Ok(())),
     Check::Standing(Phase::Running, [0, 0, 0, 1], [0, 0, 0, 0], [1, 1, 1, 1]),
     Check::Offer(
@@ -131,9 +133,15 @@ pub const FOUR_LANES_BYTES: [Check<'static>; 15] = [
 ];
 
 // Recordings of three and four lanes.
-pub fn long_runs(rt: &HostRuntime, tally: &mut Tally) -> io::Result<()> {
-    run_checks(rt, tally, 'P', Mod101, &THREE_LANES_MOD101)?;
-    run_checks(rt, tally, 'P', Mod101, &FOUR_LANES_MOD101)?;
-    run_checks(rt, tally, 'Y', Bytes, &THREE_LANES_BYTES)?;
-    run_checks(rt, tally, 'Y', Bytes, &FOUR_LANES_BYTES)
+pub fn long_runs(tally: &mut Tally<'_>) -> io::Result<()> {
+    try_all(
+        Mod101,
+        tally,
+        &[Recording(THREE_LANES_MOD101), Recording(FOUR_LANES_MOD101)],
+    )?;
+    try_all(
+        Bytes,
+        tally,
+        &[Recording(THREE_LANES_BYTES), Recording(FOUR_LANES_BYTES)],
+    )
 }

@@ -1,79 +1,47 @@
-use crate::tally::Tally;
+use crate::lettered::Lettered;
+use crate::trials::{Trial, Trials};
 use rings::{Field, Ring};
 use std::io;
 
-// An operation, what it is given, and what is due.
+// An operation of a ring, what it is given, and what is due.
 #[derive(Clone, Copy)]
-pub enum Row {
+pub enum Operation {
     Sum(u32, u32, u32),
     Opposite(u32, u32),
     Product(u32, u32, u32),
 }
 
-fn operation<R: Ring>(
-    rt: &HostRuntime,
-    tally: &mut Tally,
-    letter: char,
-    ring: R,
-    row: Row,
-) -> io::Result<()> {
-    match row {
-        Row::Sum(a, b, due) => {
-            let came = ring.sum(a, b);
-            let mark = tally.count(came == due);
-            println!(rt; "{letter}: {a} + {b} = {came}, {mark}")
-        }
-        Row::Opposite(a, due) => {
-            let came = ring.opposite(a);
-            let mark = tally.count(came == due);
-            println!(rt; "{letter}: the opposite of {a} is {came}, {mark}")
-        }
-        Row::Product(a, b, due) => {
-            let came = ring.product(a, b);
-            let mark = tally.count(came == due);
-            println!(rt; "{letter}: {a} x {b} = {came}, {mark}")
+impl<R: Lettered> Trial<R> for Operation {
+    fn carry_out(&self, trials: &mut Trials<'_, '_, R>) -> io::Result<()> {
+        let ring = trials.ring();
+        match *self {
+            Operation::Sum(a, b, due) => {
+                let came = ring.sum(a, b);
+                trials.tell(format_args!(": {a} + {b} = {came}"), came == due)
+            }
+            Operation::Opposite(a, due) => {
+                let came = ring.opposite(a);
+                trials.tell(format_args!(": the opposite of {a} is {came}"), came == due)
+            }
+            Operation::Product(a, b, due) => {
+                let came = ring.product(a, b);
+                trials.tell(format_args!(": {a} x {b} = {came}"), came == due)
+            }
         }
     }
 }
 
-pub fn operations<R: Ring>(
-    rt: &HostRuntime,
-    tally: &mut Tally,
-    letter: char,
-    ring: R,
-    rows: &[Row],
-) -> io::Result<()> {
-    for row in rows {
-        operation(rt, tally, letter, ring, *row)?;
-    }
-    Ok(())
-}
+// A number, and the inverse that is due.
+#[derive(Clone, Copy)]
+pub struct Inverse(pub u32, pub Option<u32>);
 
-fn inverse<F: Field>(
-    rt: &HostRuntime,
-    tally: &mut Tally,
-    letter: char,
-    field: F,
-    a: u32,
-    due: Option<u32>,
-) -> io::Result<()> {
-    let came = field.inverse(a);
-    let mark = tally.count(came == due);
-    match came {
-        Some(b) => println!(rt; "{letter}: the inverse of {a} is {b}, {mark}"),
-        None => println!(rt; "{letter}: the inverse of {a} is absent, {mark}"),
+impl<F: Lettered + Field> Trial<F> for Inverse {
+    fn carry_out(&self, trials: &mut Trials<'_, '_, F>) -> io::Result<()> {
+        let Inverse(a, due) = *self;
+        let came = trials.ring().inverse(a);
+        match came {
+            Some(b) => trials.tell(format_args!(": the inverse of {a} is {b}"), came == due),
+            None => trials.tell(format_args!(": the inverse of {a} is absent"), came == due),
+        }
     }
-}
-
-pub fn inverses<F: Field>(
-    rt: &HostRuntime,
-    tally: &mut Tally,
-    letter: char,
-    field: F,
-    rows: &[(u32, Option<u32>)],
-) -> io::Result<()> {
-    for (a, due) in rows {
-        inverse(rt, tally, letter, field, *a, *due)?;
-    }
-    Ok(())
 }

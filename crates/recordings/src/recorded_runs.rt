@@ -1,11 +1,13 @@
-use crate::run_checks::{Check, run_checks};
-use crate::tally::Tally;
+use crate::checks::Check;
+use crate::recording::Recording;
+use crate::trials::try_all;
+use cases::Tally;
 use recurrences::{Phase, Refusal};
 use rings::{Binary, Bytes, Mod101};
 use std::io;
 
 // A run that is not yet started, and takes nothing.
-pub const UNSTARTED: [Check<'static>; 4] = [
+pub const UNSTARTED: &[Check<'static>] = &[
     Check::Standing(Phase::Settled, [0, 0, 0, 1], [0, 0, 0, 0], [1, 0, 0, 0]),
     Check::Offer(&[0], Err(Refusal::NotRunning)),
     Check::Column(1, 1, Ok(&[1])),
@@ -13,7 +15,7 @@ pub const UNSTARTED: [Check<'static>; 4] = [
 ];
 
 // 0,0,1,1,0,1 at bound 3 settles just at the sixth.
-pub const SIX_SAMPLES: [Check<'static>; 16] = [
+pub const SIX_SAMPLES: &[Check<'static>] = &[
     Check::Start(1, 3, Ok(())),
     Check::Standing(Phase::Running, [0, 0, 0, 1], [0, 0, 0, 0], [1, 0, 0, 0]),
     Check::Offer(&[0], Ok(())),
@@ -33,7 +35,7 @@ pub const SIX_SAMPLES: [Check<'static>; 16] = [
 ];
 
 // The same at bound 2 settles before the first 1.
-pub const CUT_AT_TWO: [Check<'static>; 8] = [
+pub const CUT_AT_TWO: &[Check<'static>] = &[
     Check::Start(1, 2, Ok(())),
     Check::Standing(Phase::Running, [0, 0, 0, 1], [0, 0, 0, 0], [1, 0, 0, 0]),
     Check::Offer(&[0], Ok(())),
@@ -45,7 +47,7 @@ pub const CUT_AT_TWO: [Check<'static>; 8] = [
 ];
 
 // The same at bound 0 is settled at its start.
-pub const CUT_AT_NONE: [Check<'static>; 4] = [
+pub const CUT_AT_NONE: &[Check<'static>] = &[
     Check::Start(1, 0, Ok(())),
     Check::Standing(Phase::Settled, [0, 0, 0, 1], [0, 0, 0, 0], [1, 0, 0, 0]),
     Check::Column(1, 1, Ok(&[1])),
@@ -53,7 +55,7 @@ pub const CUT_AT_NONE: [Check<'static>; 4] = [
 ];
 
 // The unit matrix wants two columns of degree 1.
-pub const BEYOND_ITS_BOUND: [Check<'static>; 6] = [
+pub const BEYOND_ITS_BOUND: &[Check<'static>] = &[
     Check::Start(2, 1, Ok(())),
     Check::Standing(Phase::Running, [0, 0, 0, 1], [0, 0, 0, 0], [1, 1, 0, 0]),
     Check::Offer(&[1, 0, 0, 1], Ok(())),
@@ -63,7 +65,7 @@ pub const BEYOND_ITS_BOUND: [Check<'static>; 6] = [
 ];
 
 // The unit matrix twice: each sample repeats the one before.
-pub const UNIT_TWICE: [Check<'static>; 9] = [
+pub const UNIT_TWICE: &[Check<'static>] = &[
     Check::Start(2, 2, Ok(())),
     Check::Standing(Phase::Running, [0, 0, 0, 1], [0, 0, 0, 0], [1, 1, 0, 0]),
     Check::Offer(&[1, 0, 0, 1], Ok(())),
@@ -76,7 +78,7 @@ pub const UNIT_TWICE: [Check<'static>; 9] = [
 ];
 
 // Each sample is twice the one before.
-pub const POWERS_OF_TWO: [Check<'static>; 8] = [
+pub const POWERS_OF_TWO: &[Check<'static>] = &[
     Check::Start(1, 1, Ok(())),
     Check::Standing(Phase::Running, [0, 0, 0, 1], [0, 0, 0, 0], [1, 0, 0, 0]),
     Check::Offer(&[1], Ok(())),
@@ -88,7 +90,7 @@ pub const POWERS_OF_TWO: [Check<'static>; 8] = [
 ];
 
 // Each sample is three times the one before.
-pub const POWERS_OF_THREE: [Check<'static>; 8] = [
+pub const POWERS_OF_THREE: &[Check<'static>] = &[
     Check::Start(1, 1, Ok(())),
     Check::Standing(Phase::Running, [0, 0, 0, 1], [0, 0, 0, 0], [1, 0, 0, 0]),
     Check::Offer(&[1], Ok(())),
@@ -100,13 +102,22 @@ pub const POWERS_OF_THREE: [Check<'static>; 8] = [
 ];
 
 // Recordings worked by hand.
-pub fn recorded_runs(rt: &HostRuntime, tally: &mut Tally) -> io::Result<()> {
-    run_checks(rt, tally, 'B', Binary, &UNSTARTED)?;
-    run_checks(rt, tally, 'B', Binary, &SIX_SAMPLES)?;
-    run_checks(rt, tally, 'B', Binary, &CUT_AT_TWO)?;
-    run_checks(rt, tally, 'B', Binary, &CUT_AT_NONE)?;
-    run_checks(rt, tally, 'B', Binary, &BEYOND_ITS_BOUND)?;
-    run_checks(rt, tally, 'P', Mod101, &UNIT_TWICE)?;
-    run_checks(rt, tally, 'P', Mod101, &POWERS_OF_TWO)?;
-    run_checks(rt, tally, 'Y', Bytes, &POWERS_OF_THREE)
+pub fn recorded_runs(tally: &mut Tally<'_>) -> io::Result<()> {
+    try_all(
+        Binary,
+        tally,
+        &[
+            Recording(UNSTARTED),
+            Recording(SIX_SAMPLES),
+            Recording(CUT_AT_TWO),
+            Recording(CUT_AT_NONE),
+            Recording(BEYOND_ITS_BOUND),
+        ],
+    )?;
+    try_all(
+        Mod101,
+        tally,
+        &[Recording(UNIT_TWICE), Recording(POWERS_OF_TWO)],
+    )?;
+    try_all(Bytes, tally, &[Recording(POWERS_OF_THREE)])
 }

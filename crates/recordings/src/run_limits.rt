@@ -1,17 +1,19 @@
-use crate::run_checks::{Check, run_checks};
-use crate::tally::Tally;
+use crate::checks::Check;
+use crate::recording::Recording;
+use crate::trials::try_all;
+use cases::Tally;
 use recurrences::{Phase, Refusal};
 use rings::{Binary, Mod101};
 use std::io;
 
 // The size and the bound on both sides of their limits. A start that is refused changes nothing.
-pub const STARTS: [Check<'static>; 14] = [
+pub const STARTS: &[Check<'static>] = &[
     Check::Start(0, 0, Err(Refusal::Size)),
     Check::Start(5, 0, Err(Refusal::Size)),
-    Check::Start(18446744073709551615, 0, Err(Refusal::Size)),
+    Check::Start(usize::MAX, 0, Err(Refusal::Size)),
     Check::Start(5, 65, Err(Refusal::Size)),
     Check::Start(4, 65, Err(Refusal::Bound)),
-    Check::Start(4, 18446744073709551615, Err(Refusal::Bound)),
+    Check::Start(4, usize::MAX, Err(Refusal::Bound)),
     Check::Standing(Phase::Settled, [0, 0, 0, 1], [0, 0, 0, 0], [1, 0, 0, 0]),
     Check::Start(4, 64, Ok(())),
     Check::Standing(Phase::Running, [0, 0, 0, 1], [0, 0, 0, 0], [1, 1, 1, 1]),
@@ -23,14 +25,14 @@ pub const STARTS: [Check<'static>; 14] = [
 ];
 
 // The length is asked before the codes, and the phase before both. A matrix that is refused changes nothing.
-pub const OFFERS: [Check<'static>; 15] = [
+pub const OFFERS: &[Check<'static>] = &[
     Check::Start(2, 2, Ok(())),
     Check::Offer(&[], Err(Refusal::Length)),
     Check::Offer(&[1, 0, 0], Err(Refusal::Length)),
     Check::Offer(&[1, 0, 0, 1, 0], Err(Refusal::Length)),
     Check::Offer(&[101, 0, 0], Err(Refusal::Length)),
     Check::Offer(&[101, 0, 0, 1], Err(Refusal::Code)),
-    Check::Offer(&[1, 0, 0, 4294967295], Err(Refusal::Code)),
+    Check::Offer(&[1, 0, 0, u32::MAX], Err(Refusal::Code)),
     Check::Standing(Phase::Running, [0, 0, 0, 1], [0, 0, 0, 0], [1, 1, 0, 0]),
     Check::Offer(&[100, 0, 0, 100], Ok(())),
     Check::Standing(Phase::Running, [1, 2, 1, 1], [1, 1, 0, 0], [1, 1, 0, 0]),
@@ -42,7 +44,7 @@ pub const OFFERS: [Check<'static>; 15] = [
 ];
 
 // A short run takes nothing and shows no column, whatever it is asked.
-pub const CALLS_OF_A_SHORT_RUN: [Check<'static>; 12] = [
+pub const CALLS_OF_A_SHORT_RUN: &[Check<'static>] = &[
     Check::Start(2, 1, Ok(())),
     Check::Offer(&[1, 0, 0, 1], Ok(())),
     Check::Standing(Phase::Short, [1, 2, 1, 1], [1, 1, 0, 0], [1, 1, 0, 0]),
@@ -53,16 +55,12 @@ pub const CALLS_OF_A_SHORT_RUN: [Check<'static>; 12] = [
     Check::Column(1, 2, Err(Refusal::IsShort)),
     Check::Column(0, 2, Err(Refusal::IsShort)),
     Check::Column(3, 0, Err(Refusal::IsShort)),
-    Check::Column(
-        18446744073709551615,
-        18446744073709551615,
-        Err(Refusal::IsShort),
-    ),
+    Check::Column(usize::MAX, usize::MAX, Err(Refusal::IsShort)),
     Check::Standing(Phase::Short, [1, 2, 1, 1], [1, 1, 0, 0], [1, 1, 0, 0]),
 ];
 
 // The number of a column is asked before the length of its place. A place that is refused holds what it held.
-pub const COLUMNS: [Check<'static>; 21] = [
+pub const COLUMNS: &[Check<'static>] = &[
     Check::Start(2, 3, Ok(())),
     Check::Column(1, 2, Ok(&[1])),
     Check::Column(2, 1, Err(Refusal::Length)),
@@ -78,16 +76,16 @@ pub const COLUMNS: [Check<'static>; 21] = [
     Check::Column(2, 3, Err(Refusal::Length)),
     Check::Column(2, 5, Err(Refusal::Length)),
     Check::Column(2, 0, Err(Refusal::Length)),
-    Check::Column(2, 18446744073709551615, Err(Refusal::Length)),
+    Check::Column(2, usize::MAX, Err(Refusal::Length)),
     Check::Column(0, 4, Err(Refusal::ColumnNumber)),
     Check::Column(3, 4, Err(Refusal::ColumnNumber)),
     Check::Column(3, 5, Err(Refusal::ColumnNumber)),
-    Check::Column(18446744073709551615, 0, Err(Refusal::ColumnNumber)),
+    Check::Column(usize::MAX, 0, Err(Refusal::ColumnNumber)),
     Check::Standing(Phase::Running, [1, 1, 1, 1], [0, 1, 0, 0], [1, 2, 0, 0]),
 ];
 
 // The most matrices that a run takes, 128: the first 1 stands just within the bound.
-pub const LONGEST_OF_ONE_LANE: [Check<'static>; 9] = [
+pub const LONGEST_OF_ONE_LANE: &[Check<'static>] = &[
     Check::Start(1, 64, Ok(())),
     Check::Offers(63, &[0]),
     Check::Standing(Phase::Running, [63, 0, 0, 64], [0, 0, 0, 0], [64, 0, 0, 0]),
@@ -105,7 +103,7 @@ pub const LONGEST_OF_ONE_LANE: [Check<'static>; 9] = [
 ];
 
 // The same in four lanes, with a column of 260 codes.
-pub const LONGEST_OF_FOUR_LANES: [Check<'static>; 13] = [
+pub const LONGEST_OF_FOUR_LANES: &[Check<'static>] = &[
     Check::Start(4, 64, Ok(())),
     Check::Offers(63, &[0, 0, 0, 0, 0, 0, 0, 0, 0, 0, 0, 0, 0, 0, 0, 0]),
     Check::Standing(
@@ -135,7 +133,7 @@ pub const LONGEST_OF_FOUR_LANES: [Check<'static>; 13] = [
 ];
 
 // One place later the run is settled before the first 1.
-pub const FIRST_BEYOND_THE_BOUND: [Check<'static>; 4] = [
+pub const FIRST_BEYOND_THE_BOUND: &[Check<'static>] = &[
     Check::Start(1, 64, Ok(())),
     Check::Offers(64, &[0]),
     Check::Standing(Phase::Settled, [64, 0, 0, 65], [0, 0, 0, 0], [65, 0, 0, 0]),
@@ -143,12 +141,11 @@ pub const FIRST_BEYOND_THE_BOUND: [Check<'static>; 4] = [
 ];
 
 // Both sides of every limit, and every refusal.
-pub fn run_limits(rt: &HostRuntime, tally: &mut Tally) -> io::Result<()> {
-    run_checks(rt, tally, 'P', Mod101, &STARTS)?;
-    run_checks(rt, tally, 'P', Mod101, &OFFERS)?;
-    run_checks(rt, tally, 'B', Binary, &CALLS_OF_A_SHORT_RUN)?;
-    run_checks(rt, tally, 'P', Mod101, &COLUMNS)?;
-    run_checks(rt, tally, 'B', Binary, &LONGEST_OF_ONE_LANE)?;
-    run_checks(rt, tally, 'P', Mod101, &LONGEST_OF_FOUR_LANES)?;
-    run_checks(rt, tally, 'B', Binary, &FIRST_BEYOND_THE_BOUND)
+pub fn run_limits(tally: &mut Tally<'_>) -> io::Result<()> {
+    try_all(Mod101, tally, &[Recording(STARTS), Recording(OFFERS)])?;
+    try_all(Binary, tally, &[Recording(CALLS_OF_A_SHORT_RUN)])?;
+    try_all(Mod101, tally, &[Recording(COLUMNS)])?;
+    try_all(Binary, tally, &[Recording(LONGEST_OF_ONE_LANE)])?;
+    try_all(Mod101, tally, &[Recording(LONGEST_OF_FOUR_LANES)])?;
+    try_all(Binary, tally, &[Recording(FIRST_BEYOND_THE_BOUND)])
 }

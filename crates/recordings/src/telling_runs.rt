@@ -1,11 +1,13 @@
-use crate::run_checks::{Check, run_checks};
-use crate::tally::Tally;
+use crate::checks::Check;
+use crate::recording::Recording;
+use crate::trials::try_all;
+use cases::Tally;
 use recurrences::{Phase, Refusal};
 use rings::Binary;
 use std::io;
 
 // A candidate and the auxiliary column of the row have the same degree: the auxiliary column is the pivot.
-pub const TIE_WITH_AUXILIARY: [Check<'static>; 9] = [
+pub const TIE_WITH_AUXILIARY: &[Check<'static>] = &[
     Check::Start(2, 2, Ok(())),
     Check::Standing(Phase::Running, [0, 0, 0, 1], [0, 0, 0, 0], [1, 1, 0, 0]),
     Check::Offer(&[0, 1, 1, 0], Ok(())),
@@ -18,7 +20,7 @@ pub const TIE_WITH_AUXILIARY: [Check<'static>; 9] = [
 ];
 
 // Two candidates have the same degree: the lower number is the pivot.
-pub const TIE_OF_CANDIDATES: [Check<'static>; 6] = [
+pub const TIE_OF_CANDIDATES: &[Check<'static>] = &[
     Check::Start(2, 1, Ok(())),
     Check::Standing(Phase::Running, [0, 0, 0, 1], [0, 0, 0, 0], [1, 1, 0, 0]),
     Check::Offer(&[0, 0, 1, 1], Ok(())),
@@ -28,7 +30,7 @@ pub const TIE_OF_CANDIDATES: [Check<'static>; 6] = [
 ];
 
 // A column that became an auxiliary one in the first row is closed in the second.
-pub const CLOSED_COLUMN: [Check<'static>; 6] = [
+pub const CLOSED_COLUMN: &[Check<'static>] = &[
     Check::Start(2, 1, Ok(())),
     Check::Standing(Phase::Running, [0, 0, 0, 1], [0, 0, 0, 0], [1, 1, 0, 0]),
     Check::Offer(&[0, 1, 0, 1], Ok(())),
@@ -38,7 +40,7 @@ pub const CLOSED_COLUMN: [Check<'static>; 6] = [
 ];
 
 // A run of two lanes settles by all its degrees: the test for one lane, n of at least twice the bound, would want more.
-pub const SETTLED_BY_ALL_DEGREES: [Check<'static>; 9] = [
+pub const SETTLED_BY_ALL_DEGREES: &[Check<'static>] = &[
     Check::Start(2, 2, Ok(())),
     Check::Standing(Phase::Running, [0, 0, 0, 1], [0, 0, 0, 0], [1, 1, 0, 0]),
     Check::Offer(&[0, 1, 1, 0], Ok(())),
@@ -51,9 +53,15 @@ pub const SETTLED_BY_ALL_DEGREES: [Check<'static>; 9] = [
 ];
 
 // Recordings that a program with another rule for pivots, columns or phases takes otherwise.
-pub fn telling_runs(rt: &HostRuntime, tally: &mut Tally) -> io::Result<()> {
-    run_checks(rt, tally, 'B', Binary, &TIE_WITH_AUXILIARY)?;
-    run_checks(rt, tally, 'B', Binary, &TIE_OF_CANDIDATES)?;
-    run_checks(rt, tally, 'B', Binary, &CLOSED_COLUMN)?;
-    run_checks(rt, tally, 'B', Binary, &SETTLED_BY_ALL_DEGREES)
+pub fn telling_runs(tally: &mut Tally<'_>) -> io::Result<()> {
+    try_all(
+        Binary,
+        tally,
+        &[
+            Recording(TIE_WITH_AUXILIARY),
+            Recording(TIE_OF_CANDIDATES),
+            Recording(CLOSED_COLUMN),
+            Recording(SETTLED_BY_ALL_DEGREES),
+        ],
+    )
 }

@@ -1,7 +1,8 @@
 -- The first number that passes a test, the first failing place and row, and what they tell.
-use Rattle.std.proofs.Common.{◌≡◌, ℕ, zero, suc, ◌+◌, ◌-◌, ◌<◌, ◌≤◌, Bool, true, false, cond, not, eqb, ◌≢◌, ◌⊎◌, List, Some, None, Option, sym, refl, ap, ◌∙◌, subst, ap₂, inl, inr, ⊎_elim, true≢false, arith}
+use Rattle.std.proofs.Common.{◌≡◌, ℕ, zero, suc, ◌+◌, ◌-◌, ◌<◌, ◌≤◌, Bool, true, false, cond, not, eqb, ◌≢◌, ◌⊎◌, List, Some, None, Option, sym, refl, ap, ◌∙◌, subst, ap₂, inl, inr, ⊎_elim, true≢false, add-one, arith}
+use Rattle.std.specs.List.{find, range_with_len}
 use mathlib.Core.Bool.{false≢true}
-use Rattle.std.proofs.lemmas.Bool.{cases_lt, cond-true, cond-false, eqb-true, eq-eqb}
+use Rattle.std.proofs.lemmas.Bool.{cases_lt, eqb-true, eq-eqb}
 use Rattle.rings.specs.Meaning.{Meaning}
 use Rattle.recurrences.specs.Fits.{first, first_failure, fails, column_discrepancy, matrix_count, Told}
 
@@ -31,21 +32,12 @@ module _ (test : ℕ → Bool) where
       by true e h = (omega arith, omega arith, e, λ i a b. absurd (omega arith))
       by false e h = later e (first test (suc from) count) h
 
-  -- the search as a loop makes it, from i on to n
-  pub first_here : (i n : ℕ) → i < n → test i ≡ true → first test i (n - i) ≡ Some i
+  -- std's search through the same numbers
+  pub find_first : (count from : ℕ) → find test (range_with_len from count) ≡ first test from count
   unfolding first
-  first_here i n h e =
-      ap (first test i) (let c : n - i ≡ suc (n - i - 1) = omega arith in c) ∙ cond-true (test i) (Some i) (first test (suc i) (n - i - 1)) e
-
-  pub first_later : (i n : ℕ) → i < n → test i ≡ false → first test i (n - i) ≡ first test (i + 1) (n - (i + 1))
-  unfolding first
-  first_later i n h e =
-      ap (first test i) (let c : n - i ≡ suc (n - i - 1) = omega arith in c) ∙ cond-false (test i) (Some i) (first test (suc i) (n - i - 1)) e
-      ∙ ap₂ (first test) (let a : suc i ≡ i + 1 = omega arith in a) (let b : n - i - 1 ≡ n - (i + 1) = omega arith in b)
-
-  pub first_done : (i n : ℕ) → n ≤ i → first test i (n - i) ≡ None
-  unfolding first
-  first_done i n h = ap (first test i) (let c : n - i ≡ 0 = omega arith in c)
+  find_first zero from = refl
+  find_first (suc count) from =
+      ap (cond (test from) (Some from)) (ap (λ (a : ℕ). find test (range_with_len a count)) (add-one from) ∙ find_first count (suc from))
 
 module _ (q : ℕ) (m : Meaning) (N d : ℕ) (list column : List ℕ) where
   abbrev failing : ℕ → ℕ → Bool

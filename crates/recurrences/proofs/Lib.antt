@@ -1,4 +1,3 @@
-pub mod AllCodes
 pub mod Bases
 pub mod BestCandidate
 pub mod Changes

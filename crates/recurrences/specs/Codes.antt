@@ -1,7 +1,7 @@
 -- Lists of codes.
-use Rattle.std.specs.Prelude.{ℕ, Bool, true, ◌&&◌, List, [], ◌∷◌, nat_lt}
+use Rattle.std.specs.Prelude.{ℕ, Bool, List, nat_lt}
+use Rattle.std.specs.List.{list_all}
 
 -- each entry is a code: a number below q
 abbrev pub all_codes : ℕ → List ℕ → Bool
-all_codes q [] = true
-all_codes q (x ∷ xs) = nat_lt x q && all_codes q xs
+all_codes q = list_all (λ x. nat_lt x q)

@@ -14,6 +14,7 @@ pub mod Operations
 pub mod Pairing
 pub mod Phases
 pub mod Pivot
+pub mod Ranges
 pub mod Reading
 pub mod Run
 pub mod Standing

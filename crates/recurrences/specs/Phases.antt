@@ -1,5 +1,5 @@
--- The phases of a run.
-use Rattle.std.specs.Prelude.{ℕ, ◌+◌, cond, nat_lt}
+-- The phases of a run, and a word for each.
+use Rattle.std.specs.Prelude.{ℕ, ◌+◌, cond, List, codes, nat_lt}
 use Rattle.recurrences.specs.declared.phase.Phase.{Phase}
 use Rattle.recurrences.specs.declared.phase.Phase.TheVariants.{Short, Running, Settled}
 use Rattle.recurrences.specs.Operations.{Operations}
@@ -14,3 +14,9 @@ phase bound σ μ β = cond (nat_lt bound σ) Short (cond (nat_lt (bound + μ) (
 -- the phase at a bound of columns for matrices of R rows and C columns
 abbrev pub phase_at : (O : Operations) → ℕ → ℕ → ℕ → Columns O → Phase
 phase_at O R C bound s = phase bound (total C s.gen_degree) (greatest C s.gen_degree) (least R s.aux_degree)
+
+-- the word for a phase
+abbrev pub phase_word : Phase → List ℕ
+phase_word Short = codes "short"
+phase_word Running = codes "running"
+phase_word Settled = codes "settled"

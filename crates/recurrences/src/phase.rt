@@ -1,5 +1,7 @@
-ghost use Rattle.std.specs.Prelude.{◌≡◌};
-ghost use Rattle.recurrences.specs.Phases.{phase};
+ghost use Rattle.std.specs.Prelude.{◌≡◌, Some};
+ghost use Rattle.recurrences.specs.Phases.{phase, phase_word};
+
+use std::fmt;
 
 // Where a run stands towards its bound.
 #[derive(Clone, Copy, PartialEq, Eq, Debug)]
@@ -10,6 +12,18 @@ pub enum Phase {
     Running,
     // No further matrix changes the columns, unless it takes every generator beyond the bound.
     Settled,
+}
+
+impl fmt::Display for Phase {
+    ghost output = { λ p. Some (phase_word p) };
+
+    fn fmt<W: fmt::Write>(&self, f: &mut fmt::Formatter<W>) -> fmt::Result {
+        f.write_str(match self {
+            Self::Short => "short",
+            Self::Running => "running",
+            Self::Settled => "settled",
+        })
+    }
 }
 
 // The phase from the total sigma and the greatest mu of the generator degrees, and the least beta of the auxiliary degrees.

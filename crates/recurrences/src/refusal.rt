@@ -1,5 +1,8 @@
-ghost use Rattle.std.specs.Prelude.{◌≡◌};
-ghost use Rattle.recurrences.specs.Numbering.{number};
+ghost use Rattle.std.specs.Prelude.{◌≡◌, Some};
+ghost use Rattle.recurrences.specs.Numbering.{number, reason};
+
+use std::error::Error;
+use std::fmt;
 
 // Why a call is refused.
 #[derive(Clone, Copy, PartialEq, Eq, Debug)]
@@ -31,3 +34,23 @@ impl Refusal {
         self as u32
     }
 }
+
+impl fmt::Display for Refusal {
+    ghost output = { λ e. Some (reason e) };
+
+    fn fmt<W: fmt::Write>(&self, f: &mut fmt::Formatter<W>) -> fmt::Result {
+        f.write_str(match self {
+            Self::Size => "the size is not 1 to 4",
+            Self::Bound => "the bound is above 64",
+            Self::NotRunning => "the run is not running",
+            Self::Length => "a list or a place has not the length due",
+            Self::Code => "an entry is not a code",
+            Self::IsShort => "the run is short",
+            Self::ColumnNumber => "there is no generator column of that number",
+            Self::NotSettled => "the run is not settled",
+            Self::Count => "the number of matrices wanted is not 1 to 64",
+        })
+    }
+}
+
+impl Error for Refusal {}

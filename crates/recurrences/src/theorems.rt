@@ -2,25 +2,21 @@ ghost use Rattle.std.specs.Prelude.{◌≡◌, ◌+◌, ◌*◌};
 ghost use Rattle.recurrences.specs.Theorems.{DegreesAddUp, DegreesAddUpTo, ColumnsGenerate, DegreesAreLeast, ShortExactlyWhenBeyond, CountsAreBounded, SettledIsFinal, ContinuationIsUnique};
 ghost use Rattle.recurrences.specs.Midsteps.{MidstepsAreBounded, DivisorsAreNotZero, GeneratorDegreesAreAtMostCount, RunRestsOnMatricesTaken};
 
-fn degrees_are_least() -> u8
+fn degrees_are_least()
     ensures degrees_add_up { DegreesAddUp }
     ensures columns_generate { ColumnsGenerate }
     ensures degrees_are_least { DegreesAreLeast }
     ensures short_exactly_when_beyond { ShortExactlyWhenBeyond }
-{
-    0
-}
+{}
 
-fn ends_are_final() -> u8
+fn ends_are_final()
     ensures counts_are_bounded { CountsAreBounded }
     ensures settled_is_final { SettledIsFinal }
     ensures continuation_is_unique { ContinuationIsUnique }
-{
-    0
-}
+{}
 
 // What a run finds is least, and final once it is settled.
-pub fn degrees_are_least_and_final() -> u8
+pub fn degrees_are_least_and_final()
     ensures degrees_add_up { DegreesAddUp }
     ensures columns_generate { ColumnsGenerate }
     ensures degrees_are_least { DegreesAreLeast }
@@ -29,9 +25,8 @@ pub fn degrees_are_least_and_final() -> u8
     ensures settled_is_final { SettledIsFinal }
     ensures continuation_is_unique { ContinuationIsUnique }
 {
-    let least = degrees_are_least();
-    let last = ends_are_final();
-    least | last
+    degrees_are_least();
+    ends_are_final();
 }
 
 fn degrees_add_up_to(rows: u32, count: u32)
@@ -47,28 +42,23 @@ pub fn sum_of_degrees(rows: u32, count: u32) -> u64
     rows as u64 * (count as u64 + 1)
 }
 
-fn midsteps_are_bounded() -> u8
+fn midsteps_are_bounded()
     ensures midsteps_are_bounded { MidstepsAreBounded }
     ensures divisors_are_not_zero { DivisorsAreNotZero }
-{
-    0
-}
+{}
 
-fn runs_are_bounded() -> u8
+fn runs_are_bounded()
     ensures degrees_are_at_most_count { GeneratorDegreesAreAtMostCount }
     ensures rests_on_matrices_taken { RunRestsOnMatricesTaken }
-{
-    0
-}
+{}
 
 // What a program may rely on in the midst of a step.
-pub fn steps_stay_in_bounds() -> u8
+pub fn steps_stay_in_bounds()
     ensures midsteps_are_bounded { MidstepsAreBounded }
     ensures divisors_are_not_zero { DivisorsAreNotZero }
     ensures degrees_are_at_most_count { GeneratorDegreesAreAtMostCount }
     ensures rests_on_matrices_taken { RunRestsOnMatricesTaken }
 {
-    let midsteps = midsteps_are_bounded();
-    let runs = runs_are_bounded();
-    midsteps | runs
+    midsteps_are_bounded();
+    runs_are_bounded();
 }

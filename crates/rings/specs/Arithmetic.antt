@@ -18,3 +18,7 @@ reading q m inv = record {
   product = λ a b. m.product (code q a) (code q b);
   inverse = λ a. inv (code q a);
 }
+
+-- The arithmetic of a field: the members of its kind, at the field.
+abbrev pub arithmetic : {X : Type 0} → record { size : ℕ; means : X → Meaning; inverse : X → ℕ → Option ℕ } → X → Arithmetic
+arithmetic F field = reading F.size (F.means field) (F.inverse field)

@@ -1,8 +1,8 @@
 ghost use Rattle.rings.specs.Binary.{binary, binary_inverse};
 ghost use Rattle.rings.specs.BinaryLaws.{binary_laws, binary_inverts};
 
-use crate::below::below;
 use crate::field::Field;
+use crate::numbers::below;
 use crate::ring::Ring;
 
 // The field of two elements.

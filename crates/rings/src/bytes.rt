@@ -4,8 +4,8 @@ ghost use Rattle.rings.specs.Meaning.{Inverse};
 ghost use Rattle.rings.specs.PowersOfThree.{powers_of_three, byte_inverse};
 ghost use Rattle.rings.specs.ByteLaws.{byte_laws, byte_inverts};
 
-use crate::below::below;
 use crate::field::Field;
+use crate::numbers::below;
 use crate::powers::{Powers, inverse_by_places, product_by_places};
 use crate::powers_of_three::{place_among_powers, power_of_three};
 use crate::ring::Ring;

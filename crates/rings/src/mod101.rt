@@ -4,9 +4,9 @@ ghost use Rattle.std.proofs.Common.{lit≤};
 ghost use Rattle.rings.specs.ModularLaws.{modular_laws};
 ghost use Rattle.rings.specs.InverseTable.{mod101_inverts};
 
-use crate::below::below;
 use crate::field::Field;
 use crate::mod101_inverses::inverse_at;
+use crate::numbers::below;
 use crate::ring::Ring;
 
 // The integers modulo 101.

@@ -8,32 +8,32 @@ use Rattle.recurrences.proofs.BestCandidate.{Best, best_is}
 use Rattle.recurrences.proofs.Choosing.{pick_yes, pick_no}
 use Rattle.runs.specs.Candidates.{Nonzero, nonzero_by, nonzero, best_of, pivot_of, better_of, Within, Found}
 
-pub best_none : (es ds : List ℕ) → None ≡ best_of es ds 0
+pub best_none : (es : List ℕ) (d : ℕ → ℕ) → None ≡ best_of es d 0
 unfolding best
-best_none es ds = refl
+best_none es d = refl
 
-better_is : (ds : List ℕ) (x j : ℕ) (d : Dec (x ≡ 0)) (b : Option ℕ) → cond (eqb x 0) b (better_of ds j b) ≡ better (nonzero_by x d) (λ j. get_or ds j 0) j b
+better_is : (d : ℕ → ℕ) (x j : ℕ) (z : Dec (x ≡ 0)) (b : Option ℕ) → cond (eqb x 0) b (better_of d j b) ≡ better (nonzero_by x z) d j b
 unfolding better nonzero_by pick
-better_is ds x j (yes z) None = cond-true (eqb x 0) None (Some j) (eq-eqb x 0 z)
-better_is ds x j (yes z) (Some b) = cond-true (eqb x 0) (Some b) (better_of ds j (Some b)) (eq-eqb x 0 z)
-better_is ds x j (no n) None = cond-false (eqb x 0) None (Some j) (ne_eqb x 0 n)
-better_is ds x j (no n) (Some b) = cond-false (eqb x 0) (Some b) (better_of ds j (Some b)) (ne_eqb x 0 n) ∙ go (dec_lt (get_or ds j 0) (get_or ds b 0))
+better_is d x j (yes z) None = cond-true (eqb x 0) None (Some j) (eq-eqb x 0 z)
+better_is d x j (yes z) (Some b) = cond-true (eqb x 0) (Some b) (better_of d j (Some b)) (eq-eqb x 0 z)
+better_is d x j (no n) None = cond-false (eqb x 0) None (Some j) (ne_eqb x 0 n)
+better_is d x j (no n) (Some b) = cond-false (eqb x 0) (Some b) (better_of d j (Some b)) (ne_eqb x 0 n) ∙ go (dec_lt (d j) (d b))
   where
-    go : (d : Dec (get_or ds j 0 < get_or ds b 0)) → cond (ltb (get_or ds j 0) (get_or ds b 0)) (Some j) (Some b) ≡ pick d (Some j) (Some b)
-    go (yes p) = cond-true (ltb (get_or ds j 0) (get_or ds b 0)) (Some j) (Some b) (lt-ltb (get_or ds j 0) (get_or ds b 0) p)
-    go (no p) = cond-false (ltb (get_or ds j 0) (get_or ds b 0)) (Some j) (Some b) (le-ltb (get_or ds j 0) (get_or ds b 0) (omega arith))
+    go : (p : Dec (d j < d b)) → cond (ltb (d j) (d b)) (Some j) (Some b) ≡ pick p (Some j) (Some b)
+    go (yes p) = cond-true (ltb (d j) (d b)) (Some j) (Some b) (lt-ltb (d j) (d b) p)
+    go (no p) = cond-false (ltb (d j) (d b)) (Some j) (Some b) (le-ltb (d j) (d b) (omega arith))
 
-pub best_more : (es ds : List ℕ) (j : ℕ) (b r : Option ℕ) → b ≡ best_of es ds j → r ≡ cond (eqb (get_or es j 0) 0) b (better_of ds j b) → r ≡ best_of es ds (j + 1)
+pub best_more : (es : List ℕ) (d : ℕ → ℕ) (j : ℕ) (b r : Option ℕ) → b ≡ best_of es d j → r ≡ cond (eqb (get_or es j 0) 0) b (better_of d j b) → r ≡ best_of es d (j + 1)
 unfolding best nonzero
-best_more es ds j b r e h =
-    h ∙ better_is ds (get_or es j 0) j (ℕ_discrete (get_or es j 0) 0) b
-    ∙ ap (better (nonzero es j) (λ j. get_or ds j 0) j) e
-    ∙ ap (λ (n : ℕ). best_of es ds n) (sym (add-one j))
+best_more es d j b r e h =
+    h ∙ better_is d (get_or es j 0) j (ℕ_discrete (get_or es j 0) 0) b
+    ∙ ap (better (nonzero es j) d j) e
+    ∙ ap (λ (n : ℕ). best_of es d n) (sym (add-one j))
 
-pub best_found : (es ds : List ℕ) (n : ℕ) (r : Option ℕ) → r ≡ best_of es ds n → Found es n r
-best_found es ds n r e = subst (Found es n) (sym e) (go (best_of es ds n) (best_is (Nonzero es) (nonzero es) (λ j. get_or ds j 0) n))
+pub best_found : (es : List ℕ) (d : ℕ → ℕ) (n : ℕ) (r : Option ℕ) → r ≡ best_of es d n → Found es n r
+best_found es d n r e = subst (Found es n) (sym e) (go (best_of es d n) (best_is (Nonzero es) (nonzero es) d n))
   where
-    go : (r : Option ℕ) → Best (Nonzero es) (λ j. get_or ds j 0) n r → Found es n r
+    go : (r : Option ℕ) → Best (Nonzero es) d n r → Found es n r
     go None h = tt
     go (Some b) h = (h.0, h.1)
 
@@ -42,22 +42,22 @@ found_within es n m None h w = tt
 found_within es n m (Some b) h w = let lt = w.0 in omega arith
 
 -- where none is the best, each entry is 0
-pub no_candidate : (es ds : List ℕ) (n : ℕ) → None ≡ best_of es ds n → (j : ℕ) → j < n → get_or es j 0 ≡ 0
-no_candidate es ds n e j h = go (ℕ_discrete (get_or es j 0) 0)
+pub no_candidate : (es : List ℕ) (d : ℕ → ℕ) (n : ℕ) → None ≡ best_of es d n → (j : ℕ) → j < n → get_or es j 0 ≡ 0
+no_candidate es d n e j h = go (ℕ_discrete (get_or es j 0) 0)
   where
     go : Dec (get_or es j 0 ≡ 0) → get_or es j 0 ≡ 0
     go (yes z) = z
-    go (no nz) = absurd (subst (Best (Nonzero es) (λ j. get_or ds j 0) n) (sym e) (best_is (Nonzero es) (nonzero es) (λ j. get_or ds j 0) n) j h nz)
+    go (no nz) = absurd (subst (Best (Nonzero es) d n) (sym e) (best_is (Nonzero es) (nonzero es) d n) j h nz)
 
 -- against the auxiliary column
-pub against_none : (es ds : List ℕ) (d n : ℕ) → None ≡ best_of es ds n → None ≡ pivot_of es ds d n
+pub against_none : (es : List ℕ) (d : ℕ → ℕ) (x n : ℕ) → None ≡ best_of es d n → None ≡ pivot_of es d x n
 unfolding against
-against_none es ds d n e = ap (against d (λ j. get_or ds j 0)) e
+against_none es d x n e = ap (against x d) e
 
-pub against_tie : (es ds : List ℕ) (d n l : ℕ) → Some l ≡ best_of es ds n → d ≤ get_or ds l 0 → None ≡ pivot_of es ds d n
+pub against_tie : (es : List ℕ) (d : ℕ → ℕ) (x n l : ℕ) → Some l ≡ best_of es d n → x ≤ d l → None ≡ pivot_of es d x n
 unfolding against
-against_tie es ds d n l e h = sym (pick_yes (dec_le d (get_or ds l 0)) None (Some l) h) ∙ ap (against d (λ j. get_or ds j 0)) e
+against_tie es d x n l e h = sym (pick_yes (dec_le x (d l)) None (Some l) h) ∙ ap (against x d) e
 
-pub against_win : (es ds : List ℕ) (d n l : ℕ) → Some l ≡ best_of es ds n → get_or ds l 0 < d → Some l ≡ pivot_of es ds d n
+pub against_win : (es : List ℕ) (d : ℕ → ℕ) (x n l : ℕ) → Some l ≡ best_of es d n → d l < x → Some l ≡ pivot_of es d x n
 unfolding against
-against_win es ds d n l e h = sym (pick_no (dec_le d (get_or ds l 0)) None (Some l) (λ p. omega arith)) ∙ ap (against d (λ j. get_or ds j 0)) e
+against_win es d x n l e h = sym (pick_no (dec_le x (d l)) None (Some l) (λ p. omega arith)) ∙ ap (against x d) e

@@ -1,11 +1,11 @@
 -- A list that is written from the front: below k as f says, and from k on still as g says.
-use Rattle.std.proofs.Common.{◌≡◌, ℕ, zero, suc, ◌+◌, ◌<◌, ◌≤◌, cond, ltb, List, length, get_or, set, replicate, sym, refl, ap, ◌∙◌, arith, get_or-set_other, get_or-set_same}
+use Rattle.std.proofs.Common.{◌≡◌, ℕ, zero, suc, ◌+◌, ◌<◌, cond, ltb, List, length, get_or, set, replicate, sym, refl, ap, ◌∙◌, arith, get_or-set_other, get_or-set_same}
 use mathlib.Core.Path.{fun_ext}
 use native.Mathlib.Decide.{ℕ_discrete, dec_lt}
 use Rattle.std.proofs.lemmas.Bool.{cond-true, cond-false, lt-ltb, le-ltb}
 
 -- a test that comes out alike
-pub ltb_same : (a b c d : ℕ) → (a < b → c < d) → (c < d → a < b) → ltb a b ≡ ltb c d
+ltb_same : (a b c d : ℕ) → (a < b → c < d) → (c < d → a < b) → ltb a b ≡ ltb c d
 ltb_same a b c d h k = elim (dec_lt a b) [ yes p ↦ lt-ltb a b p ∙ sym (lt-ltb c d (h p)) | no n ↦ le-ltb a b (omega arith) ∙ sym (le-ltb c d (let m : c < d → ⊥ = λ p. n (k p) in omega arith)) ]
 
 module _ {X Y : Type 0} (d : X) (read : X → Y) (f g : ℕ → Y) where
@@ -21,25 +21,6 @@ module _ {X Y : Type 0} (d : X) (read : X → Y) (f g : ℕ → Y) where
       go : Dec (x ≡ k) → read (get_or (set xs k v) x d) ≡ cond (ltb x (k + 1)) (f x) (g x)
       go (yes s) = ap (λ (y : ℕ). read (get_or (set xs k v) y d)) s ∙ ap read (get_or-set_same xs k v d lt) ∙ e ∙ sym (ap f s) ∙ sym (cond-true (ltb x (k + 1)) (f x) (g x) (lt-ltb x (k + 1) (omega arith)))
       go (no n) = ap read (get_or-set_other xs k x v d n) ∙ h x ∙ ap (λ b. cond b (f x) (g x)) (ltb_same x k x (k + 1) (λ p. omega arith) (λ p. omega arith))
-
-  -- the same, written from the back
-  pub cut_less : (xs : List X) (k : ℕ) (v : X) → k < length xs → Cut (k + 1) xs → read v ≡ g k → Cut k (set xs k v)
-  cut_less xs k v lt h e x = go (ℕ_discrete x k)
-    where
-      go : Dec (x ≡ k) → read (get_or (set xs k v) x d) ≡ cond (ltb x k) (f x) (g x)
-      go (yes s) = ap (λ (y : ℕ). read (get_or (set xs k v) y d)) s ∙ ap read (get_or-set_same xs k v d lt) ∙ e ∙ sym (ap g s) ∙ sym (cond-false (ltb x k) (f x) (g x) (le-ltb x k (omega arith)))
-      go (no n) = ap read (get_or-set_other xs k x v d n) ∙ h x ∙ ap (λ b. cond b (f x) (g x)) (ltb_same x (k + 1) x k (λ p. omega arith) (λ p. omega arith))
-
-  pub cut_below : (xs : List X) (k x : ℕ) → x < k → Cut k xs → read (get_or xs x d) ≡ f x
-  cut_below xs k x lt h = h x ∙ cond-true (ltb x k) (f x) (g x) (lt-ltb x k lt)
-
-  -- nothing is written from the back yet
-  pub cut_whole : (xs : List X) (k : ℕ) → ((x : ℕ) → read (get_or xs x d) ≡ f x) → ((x : ℕ) → k ≤ x → f x ≡ g x) → Cut k xs
-  cut_whole xs k h past x = go (dec_lt x k)
-    where
-      go : Dec (x < k) → read (get_or xs x d) ≡ cond (ltb x k) (f x) (g x)
-      go (yes p) = h x ∙ sym (cond-true (ltb x k) (f x) (g x) (lt-ltb x k p))
-      go (no n) = h x ∙ past x (omega arith) ∙ sym (cond-false (ltb x k) (f x) (g x) (le-ltb x k (omega arith)))
 
   pub cut_start : (xs : List X) → ((x : ℕ) → read (get_or xs x d) ≡ g x) → Cut 0 xs
   cut_start xs h x = h x ∙ sym (cond-false (ltb x 0) (f x) (g x) (le-ltb x 0 (omega arith)))

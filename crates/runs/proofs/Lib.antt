@@ -4,7 +4,7 @@ pub mod CodedEquations
 pub mod CodesAt
 pub mod Continued
 pub mod Cut
-pub mod DegreeLoops
+pub mod DegreeChains
 pub mod FirstEntries
 pub mod Framed
 pub mod FromLaws
@@ -16,11 +16,13 @@ pub mod NextWritten
 pub mod OneRow
 pub mod OneStep
 pub mod OneTurn
+pub mod Part
 pub mod PivotOfRow
 pub mod Promised
 pub mod Recalled
 pub mod Recording
 pub mod Replaying
+pub mod RunFacts
 pub mod Soundness
 pub mod Squares
 pub mod Starting
@@ -29,4 +31,3 @@ pub mod TakenAndWritten
 pub mod Taking
 pub mod Vectors
 pub mod WholeContinuation
-pub mod Written

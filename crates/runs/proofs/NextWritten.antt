@@ -8,7 +8,6 @@ use Rattle.recurrences.specs.Columns.{Columns}
 use Rattle.recurrences.specs.Discrepancy.{discrepancy}
 use Rattle.recurrences.specs.Operations.{numbers}
 use Rattle.recurrences.specs.Reading.{matrices_in}
-use Rattle.recurrences.proofs.MidstepTheorems.{generator_degrees_are_at_most_count}
 use Rattle.runs.specs.Equations.{Side, left, right, equations_of}
 use Rattle.runs.specs.NextMatrix.{matrices_with, behind, equation_for}
 use Rattle.runs.specs.Recorded.{recorded}
@@ -29,13 +28,6 @@ module _ (q : ℕ) (m : Meaning) (inv : ℕ → Option ℕ) (L : Laws q m) (V : 
 
   abbrev N : ℕ
   N = s.size
-
-  pub low_degrees : (j : ℕ) → j < N → get_or s.columns.gen_degrees j 0 < 130
-  low_degrees j jN =
-      let e = S.gen_degrees j jN in
-      let d = generator_degrees_are_at_most_count q m inv L V N N (matrices_of N s.matrices) s.count j jN in
-      let few = S.few in
-      omega arith
 
   module _ (p p' : List ℕ) (i : ℕ) (qs : List Equation) (x : ℕ → ℕ → ℕ) (equations : (j : ℕ) → j < N → equations_of qs j ≡ equation_for a s p (s.count + i) j)
       (only : OnlySolution a N (λ j. equations_of qs j left) (λ j. equations_of qs j right) x)

@@ -13,7 +13,7 @@ use Rattle.recurrences.specs.Run.{entry_at}
 use Rattle.recurrences.proofs.Choosing.{pick_yes, pick_no, put_here, put_away}
 use Rattle.rings.specs.Arithmetic.{Arithmetic}
 use Rattle.runs.specs.Operations.{operations_of}
-use Rattle.runs.specs.Views.{no_vector, no_column, vector_of, column_of}
+use Rattle.runs.specs.Views.{no_vector, no_column, vector_of, column_of, degree_at}
 use Rattle.runs.specs.Reach.{reach_of}
 use Rattle.runs.specs.Losses.{lessened, reduced_by}
 use Rattle.runs.specs.Midsteps.{Holds, Matches, Ready}
@@ -22,7 +22,7 @@ use Rattle.runs.specs.declared.tables.Columns.{Columns as Tables}
 use Rattle.runs.proofs.Losing.{AddsZero, whole_loss, reduced_is}
 
 -- a list written at one place is the function put at that place
-pub put_set : {X Y : Type 0} (read : X → Y) (xs : List X) (l : ℕ) (v d : X) → l < length xs → (j : ℕ) → read (get_or (set xs l v) j d) ≡ put l (read v) (λ j. read (get_or xs j d)) j
+put_set : {X Y : Type 0} (read : X → Y) (xs : List X) (l : ℕ) (v d : X) → l < length xs → (j : ℕ) → read (get_or (set xs l v) j d) ≡ put l (read v) (λ j. read (get_or xs j d)) j
 unfolding put pick
 put_set read xs l v d h j = go (ℕ_discrete j l)
   where
@@ -30,17 +30,17 @@ put_set read xs l v d h j = go (ℕ_discrete j l)
     go (yes e) = ap (λ (y : ℕ). read (get_or (set xs l v) y d)) e ∙ ap read (get_or-set_same xs l v d h)
     go (no n) = ap read (get_or-set_other xs l j v d n)
 
-pub put_same : {X : Type 0} (l j : ℕ) (a b : X) (f g : ℕ → X) → a ≡ b → f j ≡ g j → put l a f j ≡ put l b g j
+put_same : {X : Type 0} (l j : ℕ) (a b : X) (f g : ℕ → X) → a ≡ b → f j ≡ g j → put l a f j ≡ put l b g j
 unfolding put
 put_same l j a b f g e h = ap₂ (pick (ℕ_discrete j l)) e h
 
-put_own : {X : Type 0} (l j : ℕ) (f : ℕ → X) → f j ≡ put l (f l) f j
-unfolding put pick
-put_own l j f = go (ℕ_discrete j l)
+-- a function that is z at l, and elsewhere is g
+put_by : {X : Type 0} (l j : ℕ) (z : X) (f g : ℕ → X) → f l ≡ z → (j ≢ l → f j ≡ g j) → f j ≡ put l z g j
+put_by l j z f g here away = go (ℕ_discrete j l)
   where
-    go : (e : Dec (j ≡ l)) → f j ≡ pick e (f l) (f j)
-    go (yes e) = ap f e
-    go (no n) = refl
+    go : (e : Dec (j ≡ l)) → f j ≡ put l z g j
+    go (yes e) = ap f e ∙ here ∙ sym (put_here l z g j e)
+    go (no n) = away n ∙ sym (put_away l z g j n)
 
 module _ (a : Arithmetic) (N : ℕ) (Z : AddsZero a) (M : ℕ → ℕ → ℕ → ℕ) (n i : ℕ) (t : Midstep (operations_of a).ring) where
   abbrev O : Operations
@@ -51,32 +51,31 @@ module _ (a : Arithmetic) (N : ℕ) (Z : AddsZero a) (M : ℕ → ℕ → ℕ �
 
   -- columns reduced by auxiliary column i, whose entry is y, in the tables
   abbrev ReducedIn : (es : List ℕ) (y : ℕ) (c new : Tables) → Type 0
-  ReducedIn es y c new = (j : ℕ) → column_of N (get_or new.gens j no_column) ≡ cond (ltb j N) (reduced_by a N (reach_of (get_or c.aux_degrees i 0)) (get_or es j 0) (or_else 0 (a.inverse y)) (column_of N (get_or c.auxs i no_column)) (column_of N (get_or c.gens j no_column))) (column_of N (get_or c.gens j no_column))
+  ReducedIn es y c new = (j : ℕ) → column_of N (get_or new.gens j no_column) ≡ cond (ltb j N) (reduced_by a N (reach_of (degree_at c.auxs i)) (get_or es j 0) (or_else 0 (a.inverse y)) (column_of N (get_or c.auxs i no_column)) (column_of N (get_or c.gens j no_column))) (column_of N (get_or c.gens j no_column))
 
   module _ (es : List ℕ) (y : ℕ) (c : Tables) (opened : List Bool) (R : Ready a N M n i es y c opened t) (iN : i < N) where
-    pub aux_row : (new : Tables) → ReducedIn es y c new → new.gen_degrees ≡ c.gen_degrees → new.auxs ≡ c.auxs → new.aux_degrees ≡ c.aux_degrees
-        → Matches a N new opened (by_auxiliary (operations_of a) N E i t)
+    pub aux_row : (new : Tables) → ReducedIn es y c new → ((j : ℕ) → degree_at new.gens j ≡ degree_at c.gens j) → new.auxs ≡ c.auxs → Matches a N new opened (by_auxiliary (operations_of a) N E i t)
     unfolding by_auxiliary
-    aux_row new h gd ax ad =
+    aux_row new h gd ax =
         let H = R.alike.columns in
         record {
           columns = record {
             gens = λ j jN. h j ∙ cond-true (ltb j N) _ _ (lt-ltb j N jN)
-                ∙ reduced_is a N Z E i t j (get_or es j 0) y (aux_entry O N E t i) (get_or c.aux_degrees i 0) (t.columns.aux_degree i) (column_of N (get_or c.auxs i no_column)) (t.columns.aux i) (column_of N (get_or c.gens j no_column))
+                ∙ reduced_is a N Z E i t j (get_or es j 0) y (aux_entry O N E t i) (degree_at c.auxs i) (t.columns.aux_degree i) (column_of N (get_or c.auxs i no_column)) (t.columns.aux i) (column_of N (get_or c.gens j no_column))
                 (R.entries j jN) (H.gens j jN) (H.auxs i iN) R.entry (H.aux_degrees i iN) (R.tabular.auxs i iN) (R.tabular.gens j jN);
-            gen_degrees = λ j jN. ap (λ (ds : List ℕ). get_or ds j 0) gd ∙ H.gen_degrees j jN;
+            gen_degrees = λ j jN. gd j ∙ H.gen_degrees j jN;
             auxs = λ j jN. ap (λ (xs : List Column). column_of N (get_or xs j no_column)) ax ∙ H.auxs j jN;
-            aux_degrees = λ j jN. ap (λ (ds : List ℕ). get_or ds j 0) ad ∙ H.aux_degrees j jN;
+            aux_degrees = λ j jN. ap (λ (xs : List Column). degree_at xs j) ax ∙ H.aux_degrees j jN;
           };
           open_alike = R.alike.open_alike;
         }
 
     -- where no column is a candidate, nothing changes
     pub idle_row : ((j : ℕ) → j < N → get_or es j 0 ≡ 0) → Matches a N c opened (by_auxiliary (operations_of a) N E i t)
-    idle_row none = aux_row c (λ j. sym (go j (dec_lt j N))) refl refl refl
+    idle_row none = aux_row c (λ j. sym (go j (dec_lt j N))) (λ j. refl) refl
       where
         go : (j : ℕ) → Dec (j < N)
-            → cond (ltb j N) (reduced_by a N (reach_of (get_or c.aux_degrees i 0)) (get_or es j 0) (or_else 0 (a.inverse y)) (column_of N (get_or c.auxs i no_column)) (column_of N (get_or c.gens j no_column))) (column_of N (get_or c.gens j no_column))
+            → cond (ltb j N) (reduced_by a N (reach_of (degree_at c.auxs i)) (get_or es j 0) (or_else 0 (a.inverse y)) (column_of N (get_or c.auxs i no_column)) (column_of N (get_or c.gens j no_column))) (column_of N (get_or c.gens j no_column))
             ≡ column_of N (get_or c.gens j no_column)
         go j (yes h) = cond-true (ltb j N) _ _ (lt-ltb j N h) ∙ cond-true (eqb (get_or es j 0) 0) _ _ (eq-eqb (get_or es j 0) 0 (none j h))
         go j (no h) = cond-false (ltb j N) _ _ (le-ltb j N (omega arith))
@@ -95,69 +94,60 @@ module _ (a : Arithmetic) (N : ℕ) (Z : AddsZero a) (M : ℕ → ℕ → ℕ �
       abbrev less_aux : ℕ → ℕ → ℕ → ℕ
       less_aux z = lessen O z (t.columns.aux i) (t.columns.gen l)
 
-      exchanged_degrees : (xs ys : List ℕ) (k m : ℕ) (f : ℕ → ℕ) (z : ℕ) → k < length xs → ys ≡ set xs k m → m ≡ z → (j : ℕ) → get_or xs j 0 ≡ f j → get_or ys j 0 ≡ put k z f j
-      exchanged_degrees xs ys k m f z h e me j ej = ap (λ (ds : List ℕ). get_or ds j 0) e ∙ put_set (λ (v : ℕ). v) xs k m 0 h j ∙ put_same k j _ _ _ _ me ej
+      -- a list of columns that is written at one place
+      written : {Y : Type 0} (read : Column → Y) (xs ys : List Column) (k : ℕ) (v : Column) (f : ℕ → Y) (z : Y) → k < length xs → ys ≡ set xs k v → read v ≡ z
+          → (j : ℕ) → read (get_or xs j no_column) ≡ f j → read (get_or ys j no_column) ≡ put k z f j
+      written read xs ys k v f z h e ve j ej = ap (λ (cs : List Column). read (get_or cs j no_column)) e ∙ put_set read xs k v no_column h j ∙ put_same k j _ _ _ _ ve ej
 
-      pub copy_holds : (mid : Tables) → mid.gens ≡ c.gens → mid.auxs ≡ set c.auxs i (get_or c.gens l no_column)
-          → mid.gen_degrees ≡ set c.gen_degrees l (get_or c.aux_degrees i 0) → mid.aux_degrees ≡ set c.aux_degrees i (get_or c.gen_degrees l 0)
-          → i < length c.auxs → l < length c.gen_degrees → i < length c.aux_degrees → Holds a N mid (exchanged (t.columns.gen l))
-      copy_holds mid ge ax gd ad l₁ l₂ l₃ =
+      pub copy_holds : (mid : Tables) → mid.gens ≡ set c.gens l (record { degree = degree_at c.auxs i; coefficients = (get_or c.gens l no_column).coefficients })
+          → mid.auxs ≡ set c.auxs i (get_or c.gens l no_column) → l < length c.gens → i < length c.auxs → Holds a N mid (exchanged (t.columns.gen l))
+      copy_holds mid ge ax l₁ l₂ =
           let H = R.alike.columns in
           record {
-            gens = λ j jN. ap (λ (xs : List Column). column_of N (get_or xs j no_column)) ge ∙ H.gens j jN ∙ put_own l j t.columns.gen;
-            gen_degrees = λ j jN. exchanged_degrees c.gen_degrees mid.gen_degrees l (get_or c.aux_degrees i 0) t.columns.gen_degree (t.columns.aux_degree i) l₂ gd (H.aux_degrees i iN) j (H.gen_degrees j jN);
-            auxs = λ j jN. ap (λ (xs : List Column). column_of N (get_or xs j no_column)) ax ∙ put_set {Y = ℕ → ℕ → ℕ} (column_of N) c.auxs i (get_or c.gens l no_column) no_column l₁ j ∙ put_same i j _ _ _ _ (H.gens l lN) (H.auxs j jN);
-            aux_degrees = λ j jN. exchanged_degrees c.aux_degrees mid.aux_degrees i (get_or c.gen_degrees l 0) t.columns.aux_degree (t.columns.gen_degree l) l₃ ad (H.gen_degrees l lN) j (H.aux_degrees j jN);
+            gens = λ j jN. written {Y = ℕ → ℕ → ℕ} (column_of N) c.gens mid.gens l _ t.columns.gen (t.columns.gen l) l₁ ge (H.gens l lN) j (H.gens j jN);
+            gen_degrees = λ j jN. written (λ (x : Column). x.degree) c.gens mid.gens l _ t.columns.gen_degree (t.columns.aux_degree i) l₁ ge (H.aux_degrees i iN) j (H.gen_degrees j jN);
+            auxs = λ j jN. written {Y = ℕ → ℕ → ℕ} (column_of N) c.auxs mid.auxs i _ t.columns.aux (t.columns.gen l) l₂ ax (H.gens l lN) j (H.auxs j jN);
+            aux_degrees = λ j jN. written (λ (x : Column). x.degree) c.auxs mid.auxs i _ t.columns.aux_degree (t.columns.gen_degree l) l₂ ax (H.gen_degrees l lN) j (H.aux_degrees j jN);
           }
 
-      module _ (smaller : get_or c.gen_degrees l 0 < get_or c.aux_degrees i 0) where
+      module _ (smaller : degree_at c.gens l < degree_at c.auxs i) where
         -- what is copied up to the greater degree is copied whole
         copied_whole : (new : Column)
-            → ((k : ℕ) → get_or new.coefficients k no_vector ≡ cond (ltb k (reach_of (get_or c.aux_degrees i 0))) (get_or (get_or c.gens l no_column).coefficients k no_vector) (get_or (get_or c.auxs i no_column).coefficients k no_vector))
+            → ((k : ℕ) → get_or new.coefficients k no_vector ≡ cond (ltb k (reach_of (degree_at c.auxs i))) (get_or (get_or c.gens l no_column).coefficients k no_vector) (get_or (get_or c.auxs i no_column).coefficients k no_vector))
             → column_of N new ≡ t.columns.gen l
-        copied_whole new h = fun_ext (λ k. ap {B = ℕ → ℕ} (vector_of N) (h k) ∙ go k (dec_lt k (reach_of (get_or c.aux_degrees i 0))))
+        copied_whole new h = fun_ext (λ k. ap {B = ℕ → ℕ} (vector_of N) (h k) ∙ go k (dec_lt k (reach_of (degree_at c.auxs i))))
           where
             H : Holds a N c t.columns
             H = R.alike.columns
 
-            go : (k : ℕ) → Dec (k < reach_of (get_or c.aux_degrees i 0))
-                → vector_of N (cond (ltb k (reach_of (get_or c.aux_degrees i 0))) (get_or (get_or c.gens l no_column).coefficients k no_vector) (get_or (get_or c.auxs i no_column).coefficients k no_vector)) ≡ t.columns.gen l k
-            go k (yes p) = ap {B = ℕ → ℕ} (vector_of N) (cond-true (ltb k (reach_of (get_or c.aux_degrees i 0))) _ _ (lt-ltb k (reach_of (get_or c.aux_degrees i 0)) p)) ∙ ap (λ (f : ℕ → ℕ → ℕ). f k) (H.gens l lN)
+            go : (k : ℕ) → Dec (k < reach_of (degree_at c.auxs i))
+                → vector_of N (cond (ltb k (reach_of (degree_at c.auxs i))) (get_or (get_or c.gens l no_column).coefficients k no_vector) (get_or (get_or c.auxs i no_column).coefficients k no_vector)) ≡ t.columns.gen l k
+            go k (yes p) = ap {B = ℕ → ℕ} (vector_of N) (cond-true (ltb k (reach_of (degree_at c.auxs i))) _ _ (lt-ltb k (reach_of (degree_at c.auxs i)) p)) ∙ ap (λ (f : ℕ → ℕ → ℕ). f k) (H.gens l lN)
             go k (no p) =
                 let ed = H.aux_degrees i iN in
                 let dl = H.gen_degrees l lN in
                 let low = (R.tabular.auxs i iN).low in
-                ap {B = ℕ → ℕ} (vector_of N) (cond-false (ltb k (reach_of (get_or c.aux_degrees i 0))) _ _ (le-ltb k (reach_of (get_or c.aux_degrees i 0)) (omega arith)))
+                ap {B = ℕ → ℕ} (vector_of N) (cond-false (ltb k (reach_of (degree_at c.auxs i))) _ _ (le-ltb k (reach_of (degree_at c.auxs i)) (omega arith)))
                 ∙ ap (λ (f : ℕ → ℕ → ℕ). f k) (H.auxs i iN) ∙ fun_ext (λ e. (R.tabular.auxs i iN).ends k e (omega arith) ∙ sym ((R.tabular.gens l lN).ends k e (omega arith)))
 
         pub trade_holds : (mid : Tables) (b : ℕ) (z : ℕ) → b ≡ z
-            → column_of N (get_or mid.gens l no_column) ≡ lessened a N (reach_of (get_or c.aux_degrees i 0)) b (column_of N (get_or c.auxs i no_column)) (column_of N (get_or c.gens l no_column))
+            → column_of N (get_or mid.gens l no_column) ≡ lessened a N (reach_of (degree_at c.auxs i)) b (column_of N (get_or c.auxs i no_column)) (column_of N (get_or c.gens l no_column))
             → ((j : ℕ) → j ≢ l → get_or mid.gens j no_column ≡ get_or c.gens j no_column)
-            → ((k : ℕ) → get_or (get_or mid.auxs i no_column).coefficients k no_vector ≡ cond (ltb k (reach_of (get_or c.aux_degrees i 0))) (get_or (get_or c.gens l no_column).coefficients k no_vector) (get_or (get_or c.auxs i no_column).coefficients k no_vector))
+            → ((k : ℕ) → get_or (get_or mid.auxs i no_column).coefficients k no_vector ≡ cond (ltb k (reach_of (degree_at c.auxs i))) (get_or (get_or c.gens l no_column).coefficients k no_vector) (get_or (get_or c.auxs i no_column).coefficients k no_vector))
             → ((j : ℕ) → j ≢ i → get_or mid.auxs j no_column ≡ get_or c.auxs j no_column)
-            → mid.gen_degrees ≡ set c.gen_degrees l (get_or c.aux_degrees i 0) → mid.aux_degrees ≡ set c.aux_degrees i (get_or c.gen_degrees l 0)
-            → l < length c.gen_degrees → i < length c.aux_degrees → Holds a N mid (exchanged (less_aux z))
-        trade_holds mid b z bz here others aux other_auxs gd ad l₂ l₃ =
+            → degree_at mid.gens l ≡ degree_at c.auxs i → degree_at mid.auxs i ≡ degree_at c.gens l → Holds a N mid (exchanged (less_aux z))
+        trade_holds mid b z bz here others aux other_auxs gd ad =
             let H = R.alike.columns in
             record {
-              gens = λ j jN. go_gen j jN (ℕ_discrete j l);
-              gen_degrees = λ j jN. exchanged_degrees c.gen_degrees mid.gen_degrees l (get_or c.aux_degrees i 0) t.columns.gen_degree (t.columns.aux_degree i) l₂ gd (H.aux_degrees i iN) j (H.gen_degrees j jN);
-              auxs = λ j jN. go_aux j jN (ℕ_discrete j i);
-              aux_degrees = λ j jN. exchanged_degrees c.aux_degrees mid.aux_degrees i (get_or c.gen_degrees l 0) t.columns.aux_degree (t.columns.gen_degree l) l₃ ad (H.gen_degrees l lN) j (H.aux_degrees j jN);
+              gens = λ j jN. put_by l j (less_aux z) (λ j. column_of N (get_or mid.gens j no_column)) t.columns.gen
+                  (here ∙ (λ h. lessened a N (reach_of (H.aux_degrees i iN h)) (bz h) (H.auxs i iN h) (H.gens l lN h))
+                  ∙ whole_loss a N Z z (t.columns.aux_degree i) (t.columns.gen_degree l) (t.columns.aux i) (t.columns.gen l) (R.tabular.auxs i iN) (R.tabular.gens l lN))
+                  (λ ne. ap {B = ℕ → ℕ → ℕ} (column_of N) (others j ne) ∙ H.gens j jN);
+              gen_degrees = λ j jN. put_by l j (t.columns.aux_degree i) (degree_at mid.gens) t.columns.gen_degree (gd ∙ H.aux_degrees i iN) (λ ne. ap (λ (x : Column). x.degree) (others j ne) ∙ H.gen_degrees j jN);
+              auxs = λ j jN. put_by i j (t.columns.gen l) (λ j. column_of N (get_or mid.auxs j no_column)) t.columns.aux (copied_whole (get_or mid.auxs i no_column) aux)
+                  (λ ne. ap {B = ℕ → ℕ → ℕ} (column_of N) (other_auxs j ne) ∙ H.auxs j jN);
+              aux_degrees = λ j jN. put_by i j (t.columns.gen_degree l) (degree_at mid.auxs) t.columns.aux_degree (ad ∙ H.gen_degrees l lN) (λ ne. ap (λ (x : Column). x.degree) (other_auxs j ne) ∙ H.aux_degrees j jN);
             }
-          where
-            go_gen : (j : ℕ) → j < N → Dec (j ≡ l) → column_of N (get_or mid.gens j no_column) ≡ put l (less_aux z) t.columns.gen j
-            go_gen j jN (yes e) =
-                let H = R.alike.columns in
-                ap (λ (y : ℕ). column_of N (get_or mid.gens y no_column)) e ∙ here
-                ∙ (λ h. lessened a N (reach_of (H.aux_degrees i iN h)) (bz h) (H.auxs i iN h) (H.gens l lN h))
-                ∙ whole_loss a N Z z (t.columns.aux_degree i) (t.columns.gen_degree l) (t.columns.aux i) (t.columns.gen l) (R.tabular.auxs i iN) (R.tabular.gens l lN)
-                ∙ sym (put_here l (less_aux z) t.columns.gen j e)
-            go_gen j jN (no ne) = ap {B = ℕ → ℕ → ℕ} (column_of N) (others j ne) ∙ R.alike.columns.gens j jN ∙ sym (put_away l (less_aux z) t.columns.gen j ne)
-
-            go_aux : (j : ℕ) → j < N → Dec (j ≡ i) → column_of N (get_or mid.auxs j no_column) ≡ put i (t.columns.gen l) t.columns.aux j
-            go_aux j jN (yes e) = ap (λ (y : ℕ). column_of N (get_or mid.auxs y no_column)) e ∙ copied_whole (get_or mid.auxs i no_column) aux ∙ sym (put_here i (t.columns.gen l) t.columns.aux j e)
-            go_aux j jN (no ne) = ap {B = ℕ → ℕ → ℕ} (column_of N) (other_auxs j ne) ∙ R.alike.columns.auxs j jN ∙ sym (put_away i (t.columns.gen l) t.columns.aux j ne)
 
       module _ (nz : get_or es l 0 ≢ 0) (long : l < length es) where
         -- the entry of a column that is open
@@ -170,45 +160,45 @@ module _ (a : Arithmetic) (N : ℕ) (Z : AddsZero a) (M : ℕ → ℕ → ℕ �
 
         -- after the exchange the other candidates are reduced by the former column l
         pub moved_holds : (x : ℕ → ℕ → ℕ) (mid new : Tables) → Holds a N mid (exchanged x) → ReducedIn (set es l 0) (get_or es l 0) mid new
-            → new.gen_degrees ≡ mid.gen_degrees → new.auxs ≡ mid.auxs → new.aux_degrees ≡ mid.aux_degrees
+            → ((j : ℕ) → degree_at new.gens j ≡ degree_at mid.gens j) → new.auxs ≡ mid.auxs
             → Holds a N new (moved (operations_of a) N E i l x t)
         unfolding moved
-        moved_holds x mid new X h gd ax ad = record {
+        moved_holds x mid new X h gd ax = record {
           gens = λ j jN. h j ∙ cond-true (ltb j N) _ _ (lt-ltb j N jN) ∙ go j jN (ℕ_discrete j l);
-          gen_degrees = λ j jN. ap (λ (ds : List ℕ). get_or ds j 0) gd ∙ X.gen_degrees j jN;
+          gen_degrees = λ j jN. gd j ∙ X.gen_degrees j jN;
           auxs = λ j jN. ap (λ (xs : List Column). column_of N (get_or xs j no_column)) ax ∙ X.auxs j jN;
-          aux_degrees = λ j jN. ap (λ (ds : List ℕ). get_or ds j 0) ad ∙ X.aux_degrees j jN;
+          aux_degrees = λ j jN. ap (λ (xs : List Column). degree_at xs j) ax ∙ X.aux_degrees j jN;
         }
           where
             go : (j : ℕ) → j < N → Dec (j ≡ l)
-                → reduced_by a N (reach_of (get_or mid.aux_degrees i 0)) (get_or (set es l 0) j 0) (or_else 0 (a.inverse (get_or es l 0))) (column_of N (get_or mid.auxs i no_column)) (column_of N (get_or mid.gens j no_column))
+                → reduced_by a N (reach_of (degree_at mid.auxs i)) (get_or (set es l 0) j 0) (or_else 0 (a.inverse (get_or es l 0))) (column_of N (get_or mid.auxs i no_column)) (column_of N (get_or mid.gens j no_column))
                 ≡ put l x (reduced (operations_of a) N E i (t.columns.gen l) (gen_entry O N E t i l) t) j
             go j jN (yes e) =
                 cond-true (eqb (get_or (set es l 0) j 0) 0) _ _ (eq-eqb (get_or (set es l 0) j 0) 0 (ap (λ (y : ℕ). get_or (set es l 0) y 0) e ∙ get_or-set_same es l 0 0 long))
                 ∙ X.gens j jN ∙ put_here l x _ j e ∙ sym (put_here l x _ j e)
             go j jN (no ne) =
-                reduced_is a N Z E i t j (get_or (set es l 0) j 0) (get_or es l 0) (gen_entry O N E t i l) (get_or mid.aux_degrees i 0) (t.columns.gen_degree l) (column_of N (get_or mid.auxs i no_column)) (t.columns.gen l) (column_of N (get_or mid.gens j no_column))
+                reduced_is a N Z E i t j (get_or (set es l 0) j 0) (get_or es l 0) (gen_entry O N E t i l) (degree_at mid.auxs i) (t.columns.gen_degree l) (column_of N (get_or mid.auxs i no_column)) (t.columns.gen l) (column_of N (get_or mid.gens j no_column))
                 (get_or-set_other es l j 0 0 ne ∙ R.entries j jN) (X.gens j jN ∙ put_away l x _ j ne) (X.auxs i iN ∙ put_here i _ _ i refl) own_entry (X.aux_degrees i iN ∙ put_here i _ _ i refl) (R.tabular.gens l lN) (R.tabular.gens j jN)
                 ∙ sym (put_away l x _ j ne)
 
         pub copied_row : (mid new : Tables) → y ≡ 0 → l < length opened → Holds a N mid (exchanged (t.columns.gen l)) → ReducedIn (set es l 0) (get_or es l 0) mid new
-            → new.gen_degrees ≡ mid.gen_degrees → new.auxs ≡ mid.auxs → new.aux_degrees ≡ mid.aux_degrees
+            → ((j : ℕ) → degree_at new.gens j ≡ degree_at mid.gens j) → new.auxs ≡ mid.auxs
             → Matches a N new (set opened l false) (by_open (operations_of a) N E i l t)
         unfolding by_open copied
-        copied_row mid new z long_opened X h gd ax ad = subst (Matches a N new (set opened l false))
+        copied_row mid new z long_opened X h gd ax = subst (Matches a N new (set opened l false))
             (sym (pick_yes (ℕ_discrete (aux_entry O N E t i) 0) (copied (operations_of a) N E i l t) (traded (operations_of a) N E i l t) (sym R.entry ∙ z)))
             record {
-              columns = moved_holds (t.columns.gen l) mid new X h gd ax ad;
+              columns = moved_holds (t.columns.gen l) mid new X h gd ax;
               open_alike = λ j jN. put_set (λ (b : Bool). b) opened l false false long_opened j ∙ put_same l j _ _ _ _ refl (R.alike.open_alike j jN);
             }
 
         pub traded_row : (mid new : Tables) → y ≢ 0 → Holds a N mid (exchanged (less_aux (quotient (operations_of a) (gen_entry O N E t i l) (aux_entry O N E t i)))) → ReducedIn (set es l 0) (get_or es l 0) mid new
-            → new.gen_degrees ≡ mid.gen_degrees → new.auxs ≡ mid.auxs → new.aux_degrees ≡ mid.aux_degrees
+            → ((j : ℕ) → degree_at new.gens j ≡ degree_at mid.gens j) → new.auxs ≡ mid.auxs
             → Matches a N new opened (by_open (operations_of a) N E i l t)
         unfolding by_open traded
-        traded_row mid new z X h gd ax ad = subst (Matches a N new opened)
+        traded_row mid new z X h gd ax = subst (Matches a N new opened)
             (sym (pick_no (ℕ_discrete (aux_entry O N E t i) 0) (copied (operations_of a) N E i l t) (traded (operations_of a) N E i l t) (λ e. z (R.entry ∙ e))))
-            record { columns = moved_holds (less_aux (quotient (operations_of a) (gen_entry O N E t i l) (aux_entry O N E t i))) mid new X h gd ax ad; open_alike = R.alike.open_alike }
+            record { columns = moved_holds (less_aux (quotient (operations_of a) (gen_entry O N E t i l) (aux_entry O N E t i))) mid new X h gd ax; open_alike = R.alike.open_alike }
 
         -- the part of the auxiliary column that is taken away
         pub part_is : quotient (operations_of a) (get_or es l 0) y ≡ quotient (operations_of a) (gen_entry O N E t i l) (aux_entry O N E t i)

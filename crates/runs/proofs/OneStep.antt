@@ -9,7 +9,7 @@ use Rattle.recurrences.specs.Columns.{Columns, shift}
 use Rattle.recurrences.specs.Step.{row, rows, at_first, shifted, step}
 use Rattle.recurrences.specs.Run.{run, entry_at}
 use Rattle.runs.specs.Operations.{operations_of}
-use Rattle.runs.specs.Views.{no_vector, no_column, vector_of, column_of}
+use Rattle.runs.specs.Views.{no_vector, no_column, vector_of, column_of, degree_at}
 use Rattle.runs.specs.Reach.{reach_of}
 use Rattle.runs.specs.Shifts.{before, Shifted}
 use Rattle.runs.specs.Midsteps.{Holds, Matches, Tabular, AllTabular}
@@ -40,9 +40,6 @@ module _ (a : Arithmetic) (N : ℕ) (M : ℕ → ℕ → ℕ → ℕ) (n : ℕ) 
   unfolding rows
   next_row i c opened A = rw (add-one i) A
 
-  pub all_rows : (i : ℕ) (c : Tables) (opened : List Bool) → i ≡ N → Matches a N c opened (rows (operations_of a) N E i (at_first O N s)) → Holds a N c (rows (operations_of a) N E N (at_first O N s)).columns
-  all_rows i c opened e A = subst (λ (k : ℕ). Holds a N c (rows (operations_of a) N E k (at_first O N s)).columns) e A.columns
-
   -- a table that is shifted up to its new degree is shifted whole
   shifted_whole : (d : ℕ) (f : ℕ → ℕ → ℕ) (c c' : Column) → Tabular a N d f → column_of N c ≡ f → Shifted (d + 1) c c' → column_of N c' ≡ shift O f
   unfolding shift
@@ -58,24 +55,24 @@ module _ (a : Arithmetic) (N : ℕ) (M : ℕ → ℕ → ℕ → ℕ) (n : ℕ) 
           ∙ ap (λ (g : ℕ → ℕ → ℕ). g (suc k)) e ∙ fun_ext (λ x. T.ends (suc k) x (omega arith) ∙ sym (T.ends k x (omega arith)))
 
   pub step_holds : (mid new : Tables) → AllTabular a N (rows (operations_of a) N E N (at_first O N s)).columns → Holds a N mid (rows (operations_of a) N E N (at_first O N s)).columns
-      → new.gens ≡ mid.gens → new.gen_degrees ≡ mid.gen_degrees
-      → ((j : ℕ) → j < N → Shifted (get_or new.aux_degrees j 0) (get_or mid.auxs j no_column) (get_or new.auxs j no_column))
-      → ((j : ℕ) → get_or new.aux_degrees j 0 ≡ cond (ltb j N) (get_or mid.aux_degrees j 0 + 1) (get_or mid.aux_degrees j 0))
+      → new.gens ≡ mid.gens
+      → ((j : ℕ) → j < N → Shifted (degree_at new.auxs j) (get_or mid.auxs j no_column) (get_or new.auxs j no_column))
+      → ((j : ℕ) → j < N → degree_at new.auxs j ≡ degree_at mid.auxs j + 1)
       → Holds a N new (step (operations_of a) N E N s)
   unfolding step shifted
-  step_holds mid new T H ge gd sh ra =
-      let d : (j : ℕ) → j < N → get_or new.aux_degrees j 0 ≡ (rows (operations_of a) N E N (at_first O N s)).columns.aux_degree j + 1 =
-      λ j jN. ra j ∙ cond-true (ltb j N) _ _ (lt-ltb j N jN) ∙ ap (λ (x : ℕ). x + 1) (H.aux_degrees j jN) in
+  step_holds mid new T H ge sh ra =
+      let d : (j : ℕ) → j < N → degree_at new.auxs j ≡ (rows (operations_of a) N E N (at_first O N s)).columns.aux_degree j + 1 =
+      λ j jN. ra j jN ∙ ap (λ (x : ℕ). x + 1) (H.aux_degrees j jN) in
       record {
         gens = λ j jN. ap (λ (xs : List Column). column_of N (get_or xs j no_column)) ge ∙ H.gens j jN;
-        gen_degrees = λ j jN. ap (λ (ds : List ℕ). get_or ds j 0) gd ∙ H.gen_degrees j jN;
+        gen_degrees = λ j jN. ap (λ (xs : List Column). degree_at xs j) ge ∙ H.gen_degrees j jN;
         auxs = λ j jN. shifted_whole _ _ (get_or mid.auxs j no_column) (get_or new.auxs j no_column) (T.auxs j jN) (H.auxs j jN)
             (subst (λ (x : ℕ). Shifted x (get_or mid.auxs j no_column) (get_or new.auxs j no_column)) (d j jN) (sh j jN));
         aux_degrees = λ j jN. d j jN ∙ add-one _;
       }
 
   pub low_degrees : (c : Tables) → AllTabular a N (rows (operations_of a) N E N (at_first O N s)).columns → Holds a N c (rows (operations_of a) N E N (at_first O N s)).columns
-      → (j : ℕ) → j < N → get_or c.aux_degrees j 0 ≤ 128
+      → (j : ℕ) → j < N → degree_at c.auxs j ≤ 128
   low_degrees c T H j jN = let d = (T.auxs j jN).low in let e = H.aux_degrees j jN in omega arith
 
 pub run_more : (a : Arithmetic) (N : ℕ) (M : ℕ → ℕ → ℕ → ℕ) (n : ℕ) (c : Tables)

@@ -11,7 +11,7 @@ use Rattle.recurrences.specs.Run.{entry_at}
 use Rattle.recurrences.proofs.BestCandidate.{Best, best_is}
 use Rattle.rings.specs.Arithmetic.{Arithmetic}
 use Rattle.runs.specs.Operations.{operations_of}
-use Rattle.runs.specs.Views.{no_column, column_of}
+use Rattle.runs.specs.Views.{no_column, column_of, degree_at}
 use Rattle.runs.specs.Candidates.{Nonzero, nonzero, best_of, pivot_of}
 use Rattle.runs.specs.Midsteps.{Matches, AllTabular, Ready}
 use Rattle.runs.specs.declared.tables.Columns.{Columns as Tables}
@@ -42,8 +42,8 @@ module _ (a : Arithmetic) (N : ℕ) (M : ℕ → ℕ → ℕ → ℕ) (n i : ℕ
   E = entry_at O N M n
 
   pub ready : (es : List ℕ) (y : ℕ) (c : Tables) (opened : List Bool) → i < N → Matches a N c opened t → AllTabular a N t.columns
-      → ((j : ℕ) → get_or es j 0 ≡ cond (ltb j N) (cond (get_or opened j false) (discrepancy O N M (column_of N (get_or c.gens j no_column)) (get_or c.gen_degrees j 0) n i) 0) 0)
-      → y ≡ discrepancy O N M (column_of N (get_or c.auxs i no_column)) (get_or c.aux_degrees i 0) n i
+      → ((j : ℕ) → get_or es j 0 ≡ cond (ltb j N) (cond (get_or opened j false) (discrepancy O N M (column_of N (get_or c.gens j no_column)) (degree_at c.gens j) n i) 0) 0)
+      → y ≡ discrepancy O N M (column_of N (get_or c.auxs i no_column)) (degree_at c.auxs i) n i
       → Ready a N M n i es y c opened t
   ready es y c opened iN A T he ey = record {
     alike = A;
@@ -53,15 +53,15 @@ module _ (a : Arithmetic) (N : ℕ) (M : ℕ → ℕ → ℕ → ℕ) (n i : ℕ
   }
 
   module _ (es : List ℕ) (y : ℕ) (c : Tables) (opened : List Bool) (R : Ready a N M n i es y c opened t) (iN : i < N) where
-    pivot_is : pivot_of es c.gen_degrees (get_or c.aux_degrees i 0) N ≡ pivot O N E i t
+    pivot_is : pivot_of es (degree_at c.gens) (degree_at c.auxs i) N ≡ pivot O N E i t
     unfolding pivot
     pivot_is =
-        let found = best_is (Nonzero es) (nonzero es) (λ j. get_or c.gen_degrees j 0) N in
-        against_alike (Nonzero es) (λ j. get_or c.gen_degrees j 0) t.columns.gen_degree N (get_or c.aux_degrees i 0) (t.columns.aux_degree i) (R.alike.columns.aux_degrees i iN) R.alike.columns.gen_degrees
-        (best_of es c.gen_degrees N) found
+        let found = best_is (Nonzero es) (nonzero es) (degree_at c.gens) N in
+        against_alike (Nonzero es) (degree_at c.gens) t.columns.gen_degree N (degree_at c.auxs i) (t.columns.aux_degree i) (R.alike.columns.aux_degrees i iN) R.alike.columns.gen_degrees
+        (best_of es (degree_at c.gens) N) found
         ∙ ap (against (t.columns.aux_degree i) t.columns.gen_degree)
-        (best_unique (Nonzero es) (Candidate O N E t i) (λ j. get_or c.gen_degrees j 0) t.columns.gen_degree N (λ j jN. to (t.opened j) _ (get_or es j 0) (R.entries j jN)) (λ j jN. from (t.opened j) _ (get_or es j 0) (R.entries j jN)) R.alike.columns.gen_degrees
-        (best_of es c.gen_degrees N) (best (Candidate O N E t i) (candidate O N E t i) t.columns.gen_degree N) found (best_is (Candidate O N E t i) (candidate O N E t i) t.columns.gen_degree N))
+        (best_unique (Nonzero es) (Candidate O N E t i) (degree_at c.gens) t.columns.gen_degree N (λ j jN. to (t.opened j) _ (get_or es j 0) (R.entries j jN)) (λ j jN. from (t.opened j) _ (get_or es j 0) (R.entries j jN)) R.alike.columns.gen_degrees
+        (best_of es (degree_at c.gens) N) (best (Candidate O N E t i) (candidate O N E t i) t.columns.gen_degree N) found (best_is (Candidate O N E t i) (candidate O N E t i) t.columns.gen_degree N))
       where
         to : (b : Bool) (x z : ℕ) → z ≡ cond b x 0 → z ≢ 0 → (b ≡ true) × (x ≢ 0)
         to true x z e nz = (refl, λ w. nz (e ∙ w))
@@ -71,10 +71,10 @@ module _ (a : Arithmetic) (N : ℕ) (M : ℕ → ℕ → ℕ → ℕ) (n i : ℕ
         from true x z e h = λ w. h.1 (sym e ∙ w)
         from false x z e h = absurd (true≢false (sym h.0))
 
-    pub row_none : None ≡ pivot_of es c.gen_degrees (get_or c.aux_degrees i 0) N → by_auxiliary (operations_of a) N E i t ≡ row (operations_of a) N E i t
+    pub row_none : None ≡ pivot_of es (degree_at c.gens) (degree_at c.auxs i) N → by_auxiliary (operations_of a) N E i t ≡ row (operations_of a) N E i t
     unfolding row row_by
     row_none e = ap (row_by (operations_of a) N E i t) (e ∙ pivot_is)
 
-    pub row_some : (l : ℕ) → Some l ≡ pivot_of es c.gen_degrees (get_or c.aux_degrees i 0) N → by_open (operations_of a) N E i l t ≡ row (operations_of a) N E i t
+    pub row_some : (l : ℕ) → Some l ≡ pivot_of es (degree_at c.gens) (degree_at c.auxs i) N → by_open (operations_of a) N E i l t ≡ row (operations_of a) N E i t
     unfolding row row_by
     row_some l e = ap (row_by (operations_of a) N E i t) (e ∙ pivot_is)

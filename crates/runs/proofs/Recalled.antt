@@ -1,33 +1,19 @@
--- Where a run stands, from its tables: they give the columns and the phase after the matrices taken, and the promise.
-use Rattle.std.proofs.Common.{◌≡◌, ℕ, zero, suc, ◌+◌, ◌*◌, ◌<◌, ◌≤◌, min, max, Bool, true, false, cond, ltb, [], ◌∷◌, get_or, Option, refl, ap, ◌∙◌, ap₂, arith, below_more}
-use mathlib.Core.Bool.{false≢true}
+-- Where a run stands, from its tables: they give the columns and the phase after the matrices taken.
+use Rattle.std.proofs.Common.{◌≡◌, ℕ, zero, suc, ◌<◌, ◌≤◌, min, max, Bool, true, false, cond, ltb, [], ◌∷◌, refl, ap, ◌∙◌, ap₂, arith}
 use Rattle.std.proofs.lemmas.Bool.{ltb-true}
-use Rattle.rings.specs.Meaning.{Meaning, Laws, Inverse}
-use Rattle.rings.specs.Arithmetic.{Arithmetic, reading}
-use Rattle.recurrences.specs.declared.phase.Phase.{Phase}
-use Rattle.recurrences.specs.declared.phase.Phase.TheVariants.{Short, Running, Settled}
+use Rattle.rings.specs.Arithmetic.{Arithmetic}
 use Rattle.recurrences.specs.Degrees.{greatest, least}
 use Rattle.recurrences.specs.Phases.{phase_at}
 use Rattle.recurrences.specs.Reading.{matrices_in}
 use Rattle.recurrences.specs.Run.{run}
 use Rattle.recurrences.proofs.Dependence.{run_same}
-use Rattle.recurrences.proofs.MidstepTheorems.{generator_degrees_are_at_most_count}
-use Rattle.recurrences.proofs.RunTheorems.{counts_are_bounded}
 use Rattle.runs.specs.declared.tables.State.{State}
 use Rattle.runs.specs.Operations.{operations_of}
-use Rattle.runs.specs.Promise.{Promise}
-use Rattle.runs.specs.Ran.{RanIn, is_running}
 use Rattle.runs.specs.Recorded.{recorded}
-use Rattle.runs.specs.Sound.{Sound, run_of}
-use Rattle.runs.specs.Standings.{count_of, columns_after, shown}
+use Rattle.runs.specs.Sound.{run_of}
+use Rattle.runs.specs.Standings.{count_of, columns_after, phase_after, shown}
 use Rattle.runs.specs.Views.{matrices_of}
-use Rattle.runs.proofs.Promised.{promised}
 use Rattle.runs.proofs.Recording.{count_of_codes, entries_of_codes}
-
-pub running_is : (p : Phase) → is_running p ≡ true → p ≡ Running
-running_is Short e = absurd (false≢true e)
-running_is Running e = refl
-running_is Settled e = absurd (false≢true e)
 
 -- degrees that are alike below n
 pub greatest_same : (n : ℕ) (d e : ℕ → ℕ) → ((i : ℕ) → i < n → d i ≡ e i) → greatest n d ≡ greatest n e
@@ -62,28 +48,5 @@ module _ (a : Arithmetic) (s : State) (positive : 0 < s.size) where
   columns_recorded =
       ap (λ (n : ℕ). run (operations_of a) s.size s.size (matrices_in s.size s.size (recorded s)) n) count_recorded ∙ run_recorded s.count (omega arith)
 
-module _ (q : ℕ) (m : Meaning) (inv : ℕ → Option ℕ) (laws : Laws q m) (inverts : (a : ℕ) → a < q → Inverse q m a (inv a)) (bound : ℕ) (s : State) (positive : 0 < s.size) where
-  abbrev a : Arithmetic
-  a = reading q m inv
-
-  pub promise_recorded : RanIn a bound s → Promise a s.size bound (recorded s)
-  promise_recorded ran =
-      promised q m inv laws inverts s.size bound positive (recorded s)
-      (λ i h.
-      let below : i < s.count = omega (arith, count_recorded a s positive) in
-      ap (phase_at (operations_of a).ring s.size s.size bound) (run_recorded a s positive i (omega arith)) ∙ running_is _ (ran i below))
-
-  pub degrees_low : s.count ≤ 128 → (j : ℕ) → j < s.size → (run_of a s).gen_degree j ≤ 128
-  degrees_low few j jN = omega (arith, generator_degrees_are_at_most_count q m inv laws inverts s.size s.size (matrices_of s.size s.matrices) s.count j jN)
-
-  -- a run that is running has room for one more matrix
-  pub room_left : RanIn a bound s → phase_at (operations_of a).ring s.size s.size bound (run_of a s) ≡ Running → s.count < 2 * bound
-  room_left ran now =
-      omega (arith, (counts_are_bounded q m inv laws inverts s.size s.size (matrices_of s.size s.matrices) (s.count + 1) bound positive all).0)
-    where
-      all : (i : ℕ) → i < s.count + 1 → phase_at (operations_of a).ring s.size s.size bound (run (operations_of a) s.size s.size (matrices_of s.size s.matrices) i) ≡ Running
-      all = below_more _ s.count (λ i h. running_is _ (ran i h)) now
-
-  -- so the tables of a sound state hold low degrees
-  pub held_low : Sound a s → (j : ℕ) → j < s.size → get_or s.columns.gen_degrees j 0 ≤ 128
-  held_low sound j jN = omega (arith, sound.gen_degrees j jN, degrees_low sound.few j jN)
+  pub phase_recorded : (bound : ℕ) → phase_after a s.size bound (recorded s) ≡ phase_at (operations_of a).ring s.size s.size bound (run_of a s)
+  phase_recorded bound = ap (phase_at (operations_of a).ring s.size s.size bound) columns_recorded

@@ -9,7 +9,7 @@ use Rattle.runs.specs.Scripts.{accepted, accepted_by, answer_to, no_call}
 
 module _ (script : List Call) (answers : List Answer) (i : ℕ) (x : Answer) where
   -- what was accepted before does not hang on a later answer
-  pub accepted_earlier : (k : ℕ) → k ≤ i → accepted script (set answers i x) k ≡ accepted script answers k
+  accepted_earlier : (k : ℕ) → k ≤ i → accepted script (set answers i x) k ≡ accepted script answers k
   unfolding accepted
   accepted_earlier zero h = refl
   accepted_earlier (suc k) h =

@@ -7,7 +7,7 @@ use Rattle.recurrences.specs.Choice.{pick}
 use Rattle.recurrences.specs.Columns.{constant, unit}
 use Rattle.recurrences.specs.Run.{run, start}
 use Rattle.runs.specs.Operations.{operations_of}
-use Rattle.runs.specs.Views.{no_column, no_matrix, matrix_of, column_of, matrices_of}
+use Rattle.runs.specs.Views.{no_column, no_matrix, matrix_of, column_of, degree_at, matrices_of}
 use Rattle.runs.specs.Starts.{zero_column, zero_matrix, unit_column, started}
 use Rattle.runs.specs.Sound.{Sound}
 use Rattle.runs.specs.declared.tables.Column.{Column}
@@ -36,7 +36,7 @@ unit_at (suc (suc zero)) h = refl
 unit_at (suc (suc (suc zero))) h = refl
 unit_at (suc (suc (suc (suc j)))) h = absurd (omega arith)
 
-one_at : (j : ℕ) → j < 4 → ◌≡◌ {A = ℕ} (get_or (replicate 4 1) j 0) 1
+one_at : (j : ℕ) → j < 4 → degree_at (replicate 4 zero_column) j ≡ 1
 one_at zero h = refl
 one_at (suc zero) h = refl
 one_at (suc (suc zero)) h = refl
@@ -51,7 +51,7 @@ started_sound a N some small positive = record {
   few = lit≤ tt;
   codes = λ l r c. subst (λ (v : ℕ). v < a.size) (sym (zero_matrices N l r c)) positive;
   gens = λ j k e. let jN = j.1 in ap (λ (x : Column). column_of N x k e) (unit_at j.0 (omega arith)) ∙ unit_column_is a N j.0 jN small k e;
-  gen_degrees = λ j jN. zero_entry j;
+  gen_degrees = λ j jN. ap (λ (x : Column). x.degree) (unit_at j (omega arith));
   auxs = λ j k e. alike (λ (x : Column). column_of N x k e) 0 4 zero_column no_column (ap (λ (v : ℕ → ℕ). v e) (zero_vectors N 130 k)) (cut_off (ltb e N) 0 refl) j.0;
   aux_degrees = λ j jN. one_at j (omega arith);
 }

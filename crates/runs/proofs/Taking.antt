@@ -1,7 +1,8 @@
 -- One matrix more: the codes of the matrices taken grow by its codes, and the run was running before it.
-use Rattle.std.proofs.Common.{◌≡◌, ℕ, zero, suc, ◌+◌, ◌*◌, ◌<◌, ◌≤◌, Bool, true, false, cond, ◌&&◌, ltb, ◌≢◌, List, [], ◌∷◌, ◌++◌, length, get_or, set, sym, refl, ap, ◌∙◌, subst, ap₂, arith, get_or-set_other, get_or-set_same, below_more}
-use mathlib.Core.Bool.{false≢true}
-use Rattle.std.proofs.lemmas.Bool.{cond-true, cond_both, lt-ltb, ltb-true}
+use Rattle.std.proofs.Common.{◌≡◌, ℕ, ◌+◌, ◌*◌, ◌<◌, ◌≤◌, Bool, true, cond, ltb, ◌≢◌, List, ◌++◌, length, get_or, set, sym, ap, ◌∙◌, subst, ap₂, arith, get_or-set_other, get_or-set_same, below_more}
+use native.Mathlib.Decide.{dec_lt}
+use Rattle.std.proofs.lemmas.Bool.{cond-true, cond_both, lt-ltb}
+use Rattle.std.proofs.lemmas.List.{get_or_past}
 use Rattle.rings.specs.Arithmetic.{Arithmetic}
 use Rattle.recurrences.specs.Codes.{all_codes}
 use Rattle.recurrences.specs.declared.phase.Phase.TheVariants.{Running}
@@ -17,17 +18,12 @@ use Rattle.runs.specs.Ran.{RanIn, is_running}
 use Rattle.runs.specs.Recorded.{recorded}
 use Rattle.runs.specs.Sound.{run_of}
 use Rattle.runs.specs.Views.{matrices_of, matrix_of, vector_of, no_matrix, no_vector}
+use Rattle.runs.proofs.CodesAt.{code_at}
 use Rattle.runs.proofs.Recording.{codes_of, codes_push}
 
-both_true : (a b : Bool) → a && b ≡ true → (a ≡ true) × (b ≡ true)
-both_true true b e = (refl, e)
-both_true false b e = absurd (false≢true e)
-
 -- the entries of a list of codes are codes, also past its end
-pub code_in : (q : ℕ) (xs : List ℕ) → 0 < q → all_codes q xs ≡ true → (i : ℕ) → get_or xs i 0 < q
-code_in q [] h e i = h
-code_in q (x ∷ xs) h e zero = ltb-true x q (both_true (ltb x q) (all_codes q xs) e).0
-code_in q (x ∷ xs) h e (suc i) = code_in q xs h (both_true (ltb x q) (all_codes q xs) e).1 i
+code_in : (q : ℕ) (xs : List ℕ) → 0 < q → all_codes q xs ≡ true → (i : ℕ) → get_or xs i 0 < q
+code_in q xs h e i = elim (dec_lt i (length xs)) [ yes p ↦ code_at q xs e i p | no n ↦ rw (get_or_past xs i 0 (omega arith)) h ]
 
 pub matrix_codes : (q N : ℕ) (xs : List ℕ) → 0 < q → all_codes q xs ≡ true → (l r c : ℕ) → matrices_in N N xs l r c < q
 matrix_codes q N xs h e l r c =

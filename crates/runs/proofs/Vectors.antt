@@ -40,7 +40,7 @@ zero_entry e = alike (λ (x : ℕ). x) 0 4 0 0 refl refl e
 pub zero_entries : (N : ℕ) → vector_of N zero_vector ≡ (λ _. 0)
 zero_entries N = fun_ext (λ e. cut_off (ltb e N) _ (zero_entry e))
 
-pub past_entries : (N : ℕ) → vector_of N no_vector ≡ (λ _. 0)
+past_entries : (N : ℕ) → vector_of N no_vector ≡ (λ _. 0)
 past_entries N = fun_ext (λ e. cut_off (ltb e N) 0 refl)
 
 -- any number of zero vectors

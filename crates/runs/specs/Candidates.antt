@@ -1,4 +1,4 @@
--- The pivot of a row from the entries and degrees of its generator columns, where a column whose entry is 0 is no candidate.
+-- The pivot of a row from the entries of its generator columns and their degrees, those of column j at j, where a column whose entry is 0 is no candidate.
 use Rattle.std.specs.Prelude.{◌≡◌, ℕ, ◌<◌, cond, ◌≢◌, List, Some, None, Option, nat_lt, slice_index}
 use Rattle.std.proofs.Math.Decide.{ℕ_discrete}
 use Rattle.recurrences.specs.Pivot.{best, against}
@@ -15,17 +15,17 @@ unfoldable pub nonzero : (es : List ℕ) (j : ℕ) → Dec (Nonzero es j)
 nonzero es j = nonzero_by (slice_index es j) (ℕ_discrete (slice_index es j) 0)
 
 -- of the first N columns that are candidates the one of least degree, and of several such the lowest
-abbrev pub best_of : List ℕ → List ℕ → ℕ → Option ℕ
-best_of es ds N = best (Nonzero es) (nonzero es) (λ j. slice_index ds j) N
+abbrev pub best_of : List ℕ → (ℕ → ℕ) → ℕ → Option ℕ
+best_of es d N = best (Nonzero es) (nonzero es) d N
 
--- the best against an auxiliary column of degree d
-abbrev pub pivot_of : List ℕ → List ℕ → ℕ → ℕ → Option ℕ
-pivot_of es ds d N = against d (λ j. slice_index ds j) (best_of es ds N)
+-- the best against an auxiliary column of degree x
+abbrev pub pivot_of : List ℕ → (ℕ → ℕ) → ℕ → ℕ → Option ℕ
+pivot_of es d x N = against x d (best_of es d N)
 
 -- of a candidate j and the best before it, the better
-abbrev pub better_of : List ℕ → ℕ → Option ℕ → Option ℕ
-better_of ds j None = Some j
-better_of ds j (Some b) = cond (nat_lt (slice_index ds j) (slice_index ds b)) (Some j) (Some b)
+abbrev pub better_of : (ℕ → ℕ) → ℕ → Option ℕ → Option ℕ
+better_of d j None = Some j
+better_of d j (Some b) = cond (nat_lt (d j) (d b)) (Some j) (Some b)
 
 -- what is chosen, if anything, is below n
 abbrev pub Within : ℕ → Option ℕ → Type 0
@@ -36,8 +36,3 @@ Within n (Some b) = b < n
 abbrev pub Found : List ℕ → ℕ → Option ℕ → Type 0
 Found es n None = Unit {0}
 Found es n (Some b) = (b < n) × Nonzero es b
-
--- what is chosen, if anything, has a degree smaller than d
-abbrev pub Smaller : List ℕ → ℕ → Option ℕ → Type 0
-Smaller ds d None = Unit {0}
-Smaller ds d (Some b) = slice_index ds b < d

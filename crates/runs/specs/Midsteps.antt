@@ -5,15 +5,15 @@ use Rattle.recurrences.specs.Pivot.{Midstep, gen_entry, aux_entry}
 use Rattle.recurrences.specs.Run.{entry_at}
 use Rattle.rings.specs.Arithmetic.{Arithmetic}
 use Rattle.runs.specs.Operations.{operations_of}
-use Rattle.runs.specs.Views.{no_column, column_of}
+use Rattle.runs.specs.Views.{no_column, column_of, degree_at}
 use Rattle.runs.specs.declared.tables.Columns.{Columns as Tables}
 
 -- the tables hold the first N columns of each kind, with their degrees
 pub record Holds (a : Arithmetic) (N : ℕ) (c : Tables) (s : Columns (operations_of a).ring) : Type 0 where
   pub gens : (j : ℕ) → j < N → column_of N (slice_index_or c.gens j no_column) ≡ s.gen j
-  pub gen_degrees : (j : ℕ) → j < N → slice_index c.gen_degrees j ≡ s.gen_degree j
+  pub gen_degrees : (j : ℕ) → j < N → degree_at c.gens j ≡ s.gen_degree j
   pub auxs : (j : ℕ) → j < N → column_of N (slice_index_or c.auxs j no_column) ≡ s.aux j
-  pub aux_degrees : (j : ℕ) → j < N → slice_index c.aux_degrees j ≡ s.aux_degree j
+  pub aux_degrees : (j : ℕ) → j < N → degree_at c.auxs j ≡ s.aux_degree j
 
 -- and which generator columns are open
 pub record Matches (a : Arithmetic) (N : ℕ) (c : Tables) (opened : List Bool) (t : Midstep (operations_of a).ring) : Type 0 where

@@ -1,10 +1,10 @@
 -- What the tables of a run always satisfy.
-use Rattle.std.specs.Prelude.{◌≡◌, ℕ, ◌<◌, ◌≤◌, slice_index, slice_index_or}
+use Rattle.std.specs.Prelude.{◌≡◌, ℕ, ◌<◌, ◌≤◌, slice_index_or}
 use Rattle.rings.specs.Arithmetic.{Arithmetic}
 use Rattle.recurrences.specs.Columns.{Columns}
 use Rattle.recurrences.specs.Run.{run}
 use Rattle.runs.specs.Operations.{operations_of}
-use Rattle.runs.specs.Views.{no_column, column_of, matrices_of}
+use Rattle.runs.specs.Views.{no_column, column_of, degree_at, matrices_of}
 use Rattle.runs.specs.declared.tables.State.{State}
 
 -- the run of the matrices taken, by the definition
@@ -20,13 +20,13 @@ abbrev pub GensIn : Arithmetic → State → Type 0
 GensIn a s = (j : (n : ℕ) × (n < s.size)) (k e : ℕ) → column_of s.size (slice_index_or s.columns.gens j.0 no_column) k e ≡ (run_of a s).gen j.0 k e
 
 abbrev pub GenDegreesIn : Arithmetic → State → Type 0
-GenDegreesIn a s = (j : ℕ) → j < s.size → slice_index s.columns.gen_degrees j ≡ (run_of a s).gen_degree j
+GenDegreesIn a s = (j : ℕ) → j < s.size → degree_at s.columns.gens j ≡ (run_of a s).gen_degree j
 
 abbrev pub AuxsIn : Arithmetic → State → Type 0
 AuxsIn a s = (j : (n : ℕ) × (n < s.size)) (k e : ℕ) → column_of s.size (slice_index_or s.columns.auxs j.0 no_column) k e ≡ (run_of a s).aux j.0 k e
 
 abbrev pub AuxDegreesIn : Arithmetic → State → Type 0
-AuxDegreesIn a s = (j : ℕ) → j < s.size → slice_index s.columns.aux_degrees j ≡ (run_of a s).aux_degree j
+AuxDegreesIn a s = (j : ℕ) → j < s.size → degree_at s.columns.auxs j ≡ (run_of a s).aux_degree j
 
 pub record Sound (a : Arithmetic) (s : State) : Type 0 where
   pub some : 1 ≤ s.size

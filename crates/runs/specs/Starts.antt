@@ -5,17 +5,18 @@ use Rattle.runs.specs.declared.tables.Column.{Column}
 use Rattle.runs.specs.declared.tables.Matrix.{Matrix}
 use Rattle.runs.specs.declared.tables.State.{State}
 
+-- the zero column, of degree 1
 abbrev pub zero_column : Column
-zero_column = record { coefficients = replicate 130 zero_vector }
+zero_column = record { degree = 1; coefficients = replicate 130 zero_vector }
 
 abbrev pub zero_matrix : Matrix
 zero_matrix = record { rows = replicate 4 zero_vector }
 
--- the column whose constant coefficient is unit vector j, and whose others are zero
+-- the column of degree 0 whose constant coefficient is unit vector j, and whose others are zero
 abbrev pub unit_column : ℕ → Column
-unit_column j = record { coefficients = slice_set (replicate 130 zero_vector) 0 (record { entries = slice_set (replicate 4 0) j 1 }) }
+unit_column j = record { degree = 0; coefficients = slice_set (replicate 130 zero_vector) 0 (record { entries = slice_set (replicate 4 0) j 1 }) }
 
--- unit columns of degree 0, and zero columns of degree 1
+-- unit columns, and zero columns
 abbrev pub started : ℕ → State
 started N = record {
   size = N;
@@ -23,8 +24,6 @@ started N = record {
   matrices = replicate 128 zero_matrix;
   columns = record {
     gens = unit_column 0 ∷ unit_column 1 ∷ unit_column 2 ∷ unit_column 3 ∷ [];
-    gen_degrees = replicate 4 0;
     auxs = replicate 4 zero_column;
-    aux_degrees = replicate 4 1;
   };
 }

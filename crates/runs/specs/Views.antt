@@ -9,7 +9,7 @@ abbrev pub no_vector : Vector
 no_vector = record { entries = [] }
 
 abbrev pub no_column : Column
-no_column = record { coefficients = [] }
+no_column = record { degree = 0; coefficients = [] }
 
 abbrev pub no_matrix : Matrix
 no_matrix = record { rows = [] }
@@ -27,6 +27,10 @@ coefficients_of N vs k = vector_of N (slice_index_or vs k no_vector)
 
 abbrev pub column_of : ℕ → Column → ℕ → ℕ → ℕ
 column_of N c = coefficients_of N c.coefficients
+
+-- the degree of column j
+abbrev pub degree_at : List Column → ℕ → ℕ
+degree_at cs j = (slice_index_or cs j no_column).degree
 
 -- entry c of row r
 abbrev pub matrix_of : ℕ → Matrix → ℕ → ℕ → ℕ

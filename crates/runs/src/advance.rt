@@ -1,5 +1,5 @@
 ghost use Rattle.std.specs.Prelude.{◌≡◌, ℕ, ◌+◌, ◌<◌, length, slice_set};
-ghost use Rattle.rings.specs.Arithmetic.{reading};
+ghost use Rattle.rings.specs.Arithmetic.{arithmetic};
 ghost use Rattle.runs.specs.Views.{matrix_of};
 ghost use Rattle.runs.specs.Sound.{Sound};
 
@@ -9,10 +9,10 @@ use rings::{Field, Ring};
 
 // Takes a matrix of codes, where there is room for one more.
 pub fn advance<F: Field>(field: F, state: &mut State, matrix: &Matrix)
-    requires sound { Sound (reading F.Ring.size (F.Ring.means field) (F.Field.inverse field)) state.old }
+    requires sound { Sound (arithmetic F.Field field) state.old }
     requires room { state.old.count < 128 }
     requires codes { (r c : ℕ) → matrix_of state.old.size matrix.now r c < F.Ring.size }
-    ensures sound { Sound (reading F.Ring.size (F.Ring.means field) (F.Field.inverse field)) state.new }
+    ensures sound { Sound (arithmetic F.Field field) state.new }
     ensures count { state.new.count ≡ state.old.count + 1 }
     ensures matrices { state.new.matrices ≡ slice_set state.old.matrices state.old.count matrix.now }
     ensures size { state.new.size ≡ state.old.size }

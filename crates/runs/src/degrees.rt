@@ -1,62 +1,46 @@
-ghost use Rattle.std.specs.Prelude.{◌≡◌, ℕ, ◌<◌, ◌≤◌, List, [], ◌∷◌, if◌then◌else◌, nat_lt, slice_index};
+ghost use Rattle.std.specs.Prelude.{◌≡◌, ℕ, ◌<◌, ◌≤◌, length};
 ghost use Rattle.recurrences.specs.Degrees.{total, greatest, least};
 ghost use Rattle.runs.specs.Standings.{shown};
+ghost use Rattle.runs.specs.Views.{degree_at};
 
+use crate::tables::Column;
 use recurrences::GREATEST_SIZE;
+use std::array;
 
-// The total of the first degrees.
-pub fn total_of(size: usize, degrees: &[usize; GREATEST_SIZE]) -> usize
-    requires size { size ≤ 4 }
-    requires low { (j : ℕ) → j < size → slice_index degrees.now j ≤ 130 }
-    ensures sum { result ≡ total size (λ j. slice_index degrees.now j) }
+// The total of the degrees of columns.
+pub fn total_of(columns: &[Column]) -> usize
+    requires few { length columns.now ≤ 4 }
+    requires low { (j : ℕ) → j < length columns.now → degree_at columns.now j ≤ 128 }
+    ensures { result ≡ total (length columns.now) (degree_at columns.now) }
 {
-    let mut sum = 0;
-    for j in 0..size {
-        sum += degrees[j];
-    }
-    sum
+    columns.iter().map(|column| column.degree).sum()
 }
 
-// The greatest of the first degrees.
-pub fn greatest_of(size: usize, degrees: &[usize; GREATEST_SIZE]) -> usize
-    requires { size ≤ 4 }
-    ensures { result ≡ greatest size (λ j. slice_index degrees.now j) }
+// The greatest of them, and 0 of no columns.
+pub fn greatest_of(columns: &[Column]) -> usize
+    ensures { result ≡ greatest (length columns.now) (degree_at columns.now) }
 {
-    let mut most: usize = 0;
-    for j in 0..size {
-        most = most.max(degrees[j]);
-    }
-    most
+    columns
+        .iter()
+        .map(|column| column.degree)
+        .max()
+        .unwrap_or(0)
 }
 
-// The least of the first degrees, of which there is one at least.
-pub fn least_of(size: usize, degrees: &[usize; GREATEST_SIZE]) -> usize
-    requires one { 0 < size }
-    requires size { size ≤ 4 }
-    ensures { result ≡ least size (λ j. slice_index degrees.now j) }
+// The least of them, and 0 of no columns.
+pub fn least_of(columns: &[Column]) -> usize
+    ensures { result ≡ least (length columns.now) (degree_at columns.now) }
 {
-    let mut fewest = degrees[0];
-    for j in 1..size {
-        fewest = fewest.min(degrees[j]);
-    }
-    fewest
+    columns
+        .iter()
+        .map(|column| column.degree)
+        .min()
+        .unwrap_or(0)
 }
 
-fn shown_at(size: usize, degrees: &[usize; GREATEST_SIZE], j: usize) -> usize
-    requires { j < 4 }
-    ensures { result ≡ (if nat_lt j size then slice_index degrees.now j else 0) }
+// The degrees of the columns, and 0 behind them.
+pub fn shown_of(columns: &[Column]) -> [usize; GREATEST_SIZE]
+    ensures { result ≡ shown (length columns.now) (degree_at columns.now) }
 {
-    if j < size { degrees[j] } else { 0 }
-}
-
-// The first degrees, and 0 behind them.
-pub fn shown_of(size: usize, degrees: &[usize; GREATEST_SIZE]) -> [usize; GREATEST_SIZE]
-    ensures { result ≡ shown size (λ j. slice_index degrees.now j) }
-{
-    [
-        shown_at(size, degrees, 0),
-        shown_at(size, degrees, 1),
-        shown_at(size, degrees, 2),
-        shown_at(size, degrees, 3),
-    ]
+    array::from_fn(|j| columns.get(j).map_or(0, |column| column.degree))
 }

@@ -6,3 +6,10 @@ pub struct Equation {
     pub vector: Vector,
     pub values: Vector,
 }
+
+impl Equation {
+    pub const ZERO: Equation = Equation {
+        vector: Vector::ZERO,
+        values: Vector::ZERO,
+    };
+}

@@ -1,14 +1,12 @@
 #![tactic(auto)]
 
 mod advance;
-mod checked;
-mod continuation;
 mod copying;
 mod degrees;
 mod discrepancy;
 mod elimination;
 mod equation;
-mod next_matrix;
+mod lanes;
 mod pivot;
 pub mod replay;
 mod row;
@@ -18,9 +16,7 @@ mod shift;
 mod solve;
 mod square;
 pub mod standing;
-mod stands;
 mod start;
 mod step;
 mod tables;
-mod take;
 mod trade;

@@ -1,6 +1,8 @@
 ghost use Rattle.std.specs.Prelude.{◌≡◌, ◌<◌, ◌≤◌, true, false, if◌then◌else◌, nat_eq};
-ghost use Rattle.runs.specs.Candidates.{Within, better_of, best_of, Found, Smaller, pivot_of};
+ghost use Rattle.runs.specs.Candidates.{Within, better_of, best_of, Found};
+ghost use Rattle.runs.specs.Views.{degree_at};
 
+use crate::tables::Column;
 use recurrences::GREATEST_SIZE;
 
 // Of the best so far and column j, whose entry is given, the one of smaller degree; a tie goes to the former.
@@ -8,11 +10,11 @@ fn better(
     best: Option<usize>,
     j: usize,
     entry: u32,
-    degrees: &[usize; GREATEST_SIZE],
+    columns: &[Column; GREATEST_SIZE],
 ) -> Option<usize>
     requires best { Within 4 best }
     requires column { j < 4 }
-    ensures { result ≡ (if nat_eq entry 0 then best else better_of degrees.now j best) }
+    ensures { result ≡ (if nat_eq entry 0 then best else better_of (degree_at columns.now) j best) }
 {
     if entry == 0 {
         return best;
@@ -20,7 +22,7 @@ fn better(
     match best {
         None => Some(j),
         Some(b) => {
-            if degrees[j] < degrees[b] {
+            if columns[j].degree < columns[b].degree {
                 Some(j)
             } else {
                 Some(b)
@@ -33,15 +35,15 @@ fn better(
 pub fn best(
     size: usize,
     entries: &[u32; GREATEST_SIZE],
-    degrees: &[usize; GREATEST_SIZE],
+    columns: &[Column; GREATEST_SIZE],
 ) -> Option<usize>
     requires { size ≤ 4 }
-    ensures value { result ≡ best_of entries.now degrees.now size }
+    ensures value { result ≡ best_of entries.now (degree_at columns.now) size }
     ensures found { Found entries.now size result }
 {
     let mut best = None;
-    for j in 0..size {
-        best = better(best, j, entries[j], degrees);
+    for (j, entry) in entries[..size].iter().enumerate() {
+        best = better(best, j, *entry, columns);
     }
     best
 }
@@ -52,29 +54,4 @@ pub fn auxiliary_wins(aux_degree: usize, degree: usize) -> bool
     ensures loses { result ≡ false → degree < aux_degree }
 {
     aux_degree <= degree
-}
-
-// The pivot of a row, from the entries and degrees of the generator columns and the degree of the auxiliary column:
-// a generator column, or none where it is the auxiliary column.
-pub fn pivot(
-    size: usize,
-    entries: &[u32; GREATEST_SIZE],
-    degrees: &[usize; GREATEST_SIZE],
-    aux_degree: usize,
-) -> Option<usize>
-    requires { size ≤ 4 }
-    ensures value { result ≡ pivot_of entries.now degrees.now aux_degree size }
-    ensures found { Found entries.now size result }
-    ensures smaller { Smaller degrees.now aux_degree result }
-{
-    match best(size, entries, degrees) {
-        None => None,
-        Some(l) => {
-            if auxiliary_wins(aux_degree, degrees[l]) {
-                None
-            } else {
-                Some(l)
-            }
-        }
-    }
 }

@@ -5,16 +5,14 @@ ghost use Rattle.runs.specs.Views.{matrix_of};
 use crate::tables::{Matrix, Vector};
 use recurrences::GREATEST_SIZE;
 
-// The codes from a place on.
-fn line(size: usize, place: usize, codes: &[u32]) -> Vector
+// A row of a matrix, from its codes.
+fn line(size: usize, codes: &[u32]) -> Vector
     requires size { size ≤ 4 }
-    requires room { place + size ≤ length codes.now }
-    ensures { (c : ℕ) → slice_index result.entries c ≡ (if nat_lt c size then slice_index codes.now (place + c) else 0) }
+    requires length { length codes.now ≡ size }
+    ensures { (c : ℕ) → slice_index result.entries c ≡ (if nat_lt c size then slice_index codes.now c else 0) }
 {
     let mut entries = [0; GREATEST_SIZE];
-    for c in 0..size {
-        entries[c] = codes[place + c];
-    }
+    entries[..size].copy_from_slice(codes);
     Vector { entries }
 }
 
@@ -24,12 +22,9 @@ pub fn square(size: usize, codes: &[u32]) -> Matrix
     requires length { length codes.now ≡ size * size }
     ensures { (i c : ℕ) → matrix_of size result i c ≡ matrices_in size size codes.now 0 i c }
 {
-    let mut rows = [Vector {
-        entries: [0; GREATEST_SIZE],
-    }; GREATEST_SIZE];
-    for i in 0..size {
-        let row = line(size, i * size, codes);
-        rows[i] = row;
+    let mut rows = [Vector::ZERO; GREATEST_SIZE];
+    for (i, row) in rows[..size].iter_mut().enumerate() {
+        *row = line(size, &codes[i * size..(i + 1) * size]);
     }
     Matrix { rows }
 }

@@ -1,7 +1,7 @@
 use recurrences::{GREATEST_SIZE, Phase};
 
 // Where a run stands. The degrees of the columns stand first in their lists, and 0 behind them.
-#[derive(Clone, Copy)]
+#[derive(Clone, Copy, PartialEq, Eq, Debug)]
 pub struct Standing {
     pub phase: Phase,
     // How many matrices it has taken.

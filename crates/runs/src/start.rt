@@ -1,5 +1,5 @@
 ghost use Rattle.std.specs.Prelude.{◌≡◌, ◌<◌, ◌≤◌, []};
-ghost use Rattle.rings.specs.Arithmetic.{reading};
+ghost use Rattle.rings.specs.Arithmetic.{arithmetic};
 ghost use Rattle.runs.specs.Recorded.{recorded};
 ghost use Rattle.runs.specs.Sound.{Sound};
 ghost use Rattle.runs.specs.Starts.{zero_column, unit_column, started};
@@ -8,22 +8,25 @@ use crate::tables::{COEFFICIENTS, Column, Columns, GREATEST_COUNT, Matrix, State
 use recurrences::GREATEST_SIZE;
 use rings::{Field, Ring};
 
+// The zero column, of degree 1.
 fn zero() -> Column
     ensures { result ≡ zero_column }
 {
     Column {
+        degree: 1,
         coefficients: [Vector {
             entries: [0; GREATEST_SIZE],
         }; COEFFICIENTS],
     }
 }
 
-// The column whose constant coefficient is unit vector j.
+// The column of degree 0 whose constant coefficient is unit vector j.
 fn unit(j: usize) -> Column
     requires { j < 4 }
     ensures { result ≡ unit_column j }
 {
     let mut column = zero();
+    column.degree = 0;
     column.coefficients[0].entries[j] = 1;
     column
 }
@@ -39,9 +42,7 @@ fn started_tables(size: usize) -> State
     };
     let columns = Columns {
         gens: [unit(0), unit(1), unit(2), unit(3)],
-        gen_degrees: [0; GREATEST_SIZE],
         auxs: [zero(); GREATEST_SIZE],
-        aux_degrees: [1; GREATEST_SIZE],
     };
     State {
         size,
@@ -56,7 +57,7 @@ pub fn start<F: Field>(field: F, size: usize) -> State
     requires some { 1 ≤ size }
     requires small { size ≤ 4 }
     ensures state { result ≡ started size }
-    ensures sound { Sound (reading F.Ring.size (F.Ring.means field) (F.Field.inverse field)) result }
+    ensures sound { Sound (arithmetic F.Field field) result }
     ensures taken { recorded result ≡ [] }
 {
     started_tables(size)

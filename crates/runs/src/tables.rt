@@ -14,9 +14,16 @@ pub struct Vector {
     pub entries: [u32; GREATEST_SIZE],
 }
 
-// The coefficients of a column, from the constant one on.
+impl Vector {
+    pub const ZERO: Vector = Vector {
+        entries: [0; GREATEST_SIZE],
+    };
+}
+
+// A column with its degree. The coefficients stand from the constant one on.
 #[derive(Clone, Copy)]
 pub struct Column {
+    pub degree: usize,
     pub coefficients: [Vector; COEFFICIENTS],
 }
 
@@ -25,13 +32,11 @@ pub struct Matrix {
     pub rows: [Vector; GREATEST_SIZE],
 }
 
-// Generator columns and auxiliary columns, with their degrees.
+// Generator columns and auxiliary columns.
 #[derive(Clone, Copy)]
 pub struct Columns {
     pub gens: [Column; GREATEST_SIZE],
-    pub gen_degrees: [usize; GREATEST_SIZE],
     pub auxs: [Column; GREATEST_SIZE],
-    pub aux_degrees: [usize; GREATEST_SIZE],
 }
 
 // What a run holds: the size of its matrices, how many it has taken, these, and its columns.

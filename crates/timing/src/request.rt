@@ -1,11 +1,12 @@
-use anyhow::anyhow;
+use crate::field_name::FieldName;
+use anyhow::Context;
 use std::alloc::Global;
 
 // What is asked for: a recording, and how often it is to be put through a run.
 #[derive(Drop)]
 pub struct Request {
-    // How many codes the ring has.
-    pub ring: u32,
+    pub field: FieldName,
+    // Any numbers, and no Size and Bound: each start of a run checks them, and a request for none is answered at any.
     pub size: usize,
     pub bound: usize,
     pub repeats: u32,
@@ -14,16 +15,13 @@ pub struct Request {
 }
 
 fn number(word: Option<&str>) -> anyhow::Result<u32> {
-    match word {
-        Some(word) => Ok(word.parse::<u32>()?),
-        None => Err(anyhow!("a number is missing")),
-    }
+    Ok(word.context("a number is missing")?.parse::<u32>()?)
 }
 
-// The request that a text of numbers makes: the ring, the size, the bound, how often, and the codes.
+// The request that a text of numbers makes: how many codes the field has, the size, the bound, how often, and the codes.
 pub fn request_in(heap: Global, text: &str) -> anyhow::Result<Request> {
     let mut words = text.split_ascii_whitespace();
-    let ring = number(words.next())?;
+    let field = number(words.next())?;
     let size = number(words.next())? as usize;
     let bound = number(words.next())? as usize;
     let repeats = number(words.next())?;
@@ -32,7 +30,7 @@ pub fn request_in(heap: Global, text: &str) -> anyhow::Result<Request> {
         codes.push(word.parse::<u32>()?)?;
     }
     Ok(Request {
-        ring,
+        field: FieldName::try_from(field)?,
         size,
         bound,
         repeats,

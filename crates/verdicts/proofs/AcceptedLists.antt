@@ -1,5 +1,5 @@
 -- What holds of a list that is not refused.
-use Rattle.std.proofs.Common.{◌≡◌, ℕ, ◌*◌, ◌%◌, ◌≤◌, Bool, true, false, cond, eqb, ltb, List, length, Some, None, Option, refl, ap, true≢false, arith}
+use Rattle.std.proofs.Common.{◌≡◌, ℕ, ◌*◌, ◌%◌, ◌≤◌, Bool, true, false, cond, eqb, ltb, List, length, Some, None, Ok, Err, Option, Result, IsOk, sym, ◌∙◌, refl, ap, true≢false, arith}
 use native.Mathlib.Nat.{mod-add-div'}
 use Rattle.std.proofs.lemmas.Bool.{eqb-true, ltb-false}
 use Rattle.recurrences.specs.declared.refusal.Refusal.{Refusal}
@@ -11,12 +11,14 @@ use Rattle.verdicts.specs.Refusals.{list_refusal}
 pub some_not_none : (e : Refusal) → Some e ≡ None → ⊥
 some_not_none e h = true≢false (ap (λ (o : Option Refusal). elim o [ Some _ ↦ true | None ↦ false ]) h)
 
+-- a call that no condition refuses succeeds
+pub ok_where_none : {A : Type 0} (P : A → Type 0) (o : Option Refusal) (r : Result A Refusal) → elim r as (λ _. Type 0) [ Ok a ↦ P a | Err e ↦ o ≡ Some e ] → o ≡ None → IsOk r
+ok_where_none P o (Ok a) h n = refl
+ok_where_none P o (Err e) h n = absurd (some_not_none e (sym h ∙ n))
+
 pub record Accepted (q N bound : ℕ) (list : List ℕ) : Type 0 where
   pub some : 1 ≤ N
-  pub small : N ≤ 4
-  pub bounded : bound ≤ 64
   pub whole : length list % (N * N) ≡ 0
-  pub codes : all_codes q list ≡ true
 
 -- it is of whole matrices
 pub whole_matrices : (N : ℕ) (list : List ℕ) → length list % (N * N) ≡ 0 → length list ≡ count_of N list * (N * N)
@@ -34,8 +36,5 @@ accepted q N bound list = by (ltb N 1) refl (ltb 4 N) refl (ltb 64 bound) refl (
     by false e0 false e1 false e2 true e3 false e4 h = absurd (some_not_none Code h)
     by false e0 false e1 false e2 true e3 true e4 h = record {
       some = ltb-false N 1 e0;
-      small = ltb-false 4 N e1;
-      bounded = ltb-false 64 bound e2;
       whole = eqb-true (length list % (N * N)) 0 e3;
-      codes = e4;
     }

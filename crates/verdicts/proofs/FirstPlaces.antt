@@ -4,7 +4,7 @@ use mathlib.Core.Bool.{false≢true}
 use native.Mathlib.Decide.{dec_le, dec_lt}
 use Rattle.recurrences.specs.Fits.{first}
 use Rattle.recurrences.proofs.FirstFailure.{First, first_tells}
-use Rattle.verdicts.specs.Searches.{some_below, earlier}
+use Rattle.verdicts.specs.Searches.{some_below}
 
 left_of : (a b : Bool) → a || b ≡ false → a ≡ false
 left_of true b e = e
@@ -65,6 +65,12 @@ module _ (test : ℕ → Bool) (from count : ℕ) where
 
   pub first_is : (o : Option ℕ) → First test from count o → o ≡ first test from count
   first_is o t = alone o (first test from count) t (first_tells test count from)
+
+-- the lesser of two numbers, of which each may be missing
+abbrev pub earlier : Option ℕ → Option ℕ → Option ℕ
+earlier None y = y
+earlier (Some a) None = Some a
+earlier (Some a) (Some b) = Some (min a b)
 
 -- of two tests, the first number that passes one of them
 module _ (p q : ℕ → Bool) (from count : ℕ) where

@@ -7,12 +7,16 @@ use Rattle.rings.specs.Arithmetic.{Arithmetic, reading}
 use Rattle.recurrences.specs.declared.phase.Phase.{Phase}
 use Rattle.recurrences.specs.declared.phase.Phase.TheVariants.{Short, Running, Settled}
 use Rattle.recurrences.specs.Codes.{all_codes}
+use Rattle.recurrences.specs.Degrees.{greatest, least, total}
+use Rattle.recurrences.specs.Phases.{phase}
 use Rattle.recurrences.specs.Reading.{matrices_in, column_in}
 use Rattle.recurrences.specs.Step.{rows}
 use Rattle.recurrences.proofs.Listing.{length_listed, get_or_listed}
+use Rattle.recurrences.proofs.PhaseFacts.{running_says, settled_says}
+use Rattle.recurrences.proofs.Totals.{greatest_is, greatest_total}
 use Rattle.recurrences.proofs.MidstepTheorems.{midsteps_are_bounded, generator_degrees_are_at_most_count}
 use Rattle.runs.specs.Refusals.{numbered_refusal, column_refusal}
-use Rattle.runs.specs.Standings.{count_of, columns_after, column_after, shown}
+use Rattle.runs.specs.Standings.{count_of, columns_after, column_after, phase_after, shown}
 use Rattle.runs.proofs.CodesAt.{all_codes_from}
 
 module _ (a : Arithmetic) (N : ℕ) (taken : List ℕ) (j : ℕ) where
@@ -56,6 +60,26 @@ column_given N p j degree long told jN e = by p told
     by Short told = absurd (told refl)
     by Running told = numbered
     by Settled told = numbered
+
+-- a run that is not short totals no more than the bound
+not_short_says : (bound σ μ β : ℕ) → phase bound σ μ β ≢ Short → σ ≤ bound
+not_short_says bound σ μ β h = by (phase bound σ μ β) refl
+  where
+    by : (p : Phase) → phase bound σ μ β ≡ p → σ ≤ bound
+    by Short e = absurd (h e)
+    by Running e = (running_says bound σ μ β e).0
+    by Settled e = (settled_says bound σ μ β e).0
+
+module _ (a : Arithmetic) (N bound : ℕ) (taken : List ℕ) (given : phase_after a N bound taken ≢ Short) where
+  pub total_within_bound : total N (columns_after a N taken).gen_degree ≤ bound
+  total_within_bound =
+      let d = (columns_after a N taken).gen_degree in
+      not_short_says bound (total N d) (greatest N d) (least N (columns_after a N taken).aux_degree) given
+
+  pub degree_within_bound : (j : ℕ) → j < N → (columns_after a N taken).gen_degree j ≤ bound
+  degree_within_bound j h =
+      let d = (columns_after a N taken).gen_degree in
+      omega (arith, greatest_is N d j h, greatest_total N d, total_within_bound)
 
 -- the degrees that a run shows, by their numbers
 pub shown_degree : (N : ℕ) (d : ℕ → ℕ) (j : ℕ) → N ≤ 4 → j < N → get_or (shown N d) j 0 ≡ d j

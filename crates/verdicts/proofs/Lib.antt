@@ -1,4 +1,5 @@
 pub mod AcceptedLists
+pub mod Chunks
 pub mod CodedParts
 pub mod TakenCounts
 pub mod FirstPlaces
@@ -8,3 +9,4 @@ pub mod ColumnMisfits
 pub mod AllMisfits
 pub mod Prefixes
 pub mod Entitled
+pub mod Evidences

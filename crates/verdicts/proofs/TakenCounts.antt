@@ -1,12 +1,31 @@
 -- How many matrices of a list are taken, as a loop finds it, and what the count tells.
-use Rattle.std.proofs.Common.{◌≡◌, ℕ, zero, suc, ◌+◌, ◌-◌, ◌*◌, ◌<◌, ◌≤◌, true, false, List, ◌++◌, take, drop, sym, refl, ap, ◌∙◌, ap₂, true≢false, add-mul, one-mul, arith, take-add}
+use Rattle.std.proofs.Common.{◌≡◌, ℕ, zero, suc, ◌+◌, ◌-◌, ◌*◌, ◌<◌, ◌≤◌, true, false, eqb, List, ◌++◌, length, take, Some, None, drop, sym, refl, ap, ◌∙◌, ap₂, true≢false, add-mul, one-mul, arith, take-add}
 use mathlib.Core.Bool.{false≢true}
+use Rattle.std.proofs.lemmas.Bool.{cond-true, eq-eqb}
 use Rattle.rings.specs.Arithmetic.{Arithmetic}
+use Rattle.recurrences.specs.Codes.{all_codes}
 use Rattle.recurrences.specs.declared.phase.Phase.{Phase}
 use Rattle.recurrences.specs.declared.phase.Phase.TheVariants.{Short, Running, Settled}
+use Rattle.recurrences.specs.declared.refusal.Refusal.{Refusal}
+use Rattle.recurrences.specs.declared.refusal.Refusal.TheVariants.{NotRunning}
 use Rattle.runs.specs.Ran.{is_running}
+use Rattle.runs.specs.Refusals.{offer_refusal}
 use Rattle.runs.specs.Standings.{phase_after}
 use Rattle.verdicts.specs.Taking.{first_matrices, taken_from}
+use Rattle.verdicts.proofs.AcceptedLists.{some_not_none}
+
+-- a matrix of codes is taken where the run is running
+module _ (q N : ℕ) (matrix : List ℕ) where
+  pub taken_running : (p : Phase) → offer_refusal q N p matrix ≡ None → is_running p ≡ true
+  taken_running Short h = absurd (some_not_none NotRunning h)
+  taken_running Running h = refl
+  taken_running Settled h = absurd (some_not_none NotRunning h)
+
+  pub refused_not_running : length matrix ≡ N * N → all_codes q matrix ≡ true → (p : Phase) (e : Refusal) → offer_refusal q N p matrix ≡ Some e → is_running p ≡ false
+  refused_not_running long codes Short e h = refl
+  refused_not_running long codes Running e h =
+      absurd (some_not_none e (sym h ∙ cond-true (eqb (length matrix) (N * N)) _ _ (eq-eqb (length matrix) (N * N) long) ∙ cond-true (all_codes q matrix) _ _ codes))
+  refused_not_running long codes Settled e h = refl
 
 module _ (a : Arithmetic) (N bound : ℕ) (list : List ℕ) where
   abbrev phase_at_count : ℕ → Phase

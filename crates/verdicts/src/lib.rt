@@ -1,9 +1,11 @@
 #![tactic(auto)]
 
-mod driving;
+mod columns;
+mod evidence;
 mod judging;
-mod misfit;
+mod recording;
 pub mod verdict;
 
+pub use columns::{LONGEST_COLUMN, generator};
 pub use judging::judge;
 pub use verdict::Verdict;

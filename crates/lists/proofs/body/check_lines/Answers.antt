@@ -1,11 +1,12 @@
-use Rattle.std.proofs.Common.{Ok, sym}
-use Rattle.lists.specs.Bytes.{comma}
-use Rattle.lists.specs.LineChecks.{checked_header}
-use Rattle.lists.specs.Split.{split}
-use Rattle.lists.proofs.Headers.{header_ok, size_greatest}
+use Rattle.std.proofs.Common.{◌≡◌, ◌∷◌, sym, ap, ◌∙◌, arith}
+use Rattle.std.proofs.lemmas.Grind.{common_steps}
+use Rattle.lists.specs.Bytes.{line_end}
+use Rattle.lists.specs.Cursor.{left}
+use Rattle.lists.specs.FileChecks.{checked_lines}
 use Rattle.lists.proofs.body.check_lines.Goals as goal
 
-pub check_body-requires : goal.check_body-requires
-check_body-requires c =
-    let l = c.in-Some.line in let h = c.in_ok-header-in-Some.header in
-    size_greatest h.size (header_ok l.number (split comma l.bytes.now) h (sym {a = Ok h} {b = checked_header l.number (split comma l.bytes.now)} c.in_ok-header-in-Some.ensures)).is_size
+pub returns-in_err-count : goal.returns-in_err-count
+returns-in_err-count c =
+    let ls = left line_end c.next.new.self.parts.rest in
+    let refused : c.from_residual-in_err-count.result ≡ checked_lines (c.in-Some.line.bytes.now ∷ ls) = grind (arith, common_steps) in
+    refused ∙ ap checked_lines (sym c.in-Some.ensures.steps.0)

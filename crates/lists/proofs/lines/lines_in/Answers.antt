@@ -11,4 +11,4 @@ overflow_sub-file c = omega (arith, opened_some c.args.file.now tt c.requires.en
 pub returns : goal.returns
 returns c =
     let all : left line_end c.new.result.rest ≡ lines_of c.args.file.now = search rules in
-    record { mark = search rules; all = all; few = omega (arith, ap length all, lines_few c.args.file.now tt c.requires.ended) }
+    record { all = all; few = omega (arith, ap length all, lines_few c.args.file.now tt c.requires.ended) }

@@ -1,13 +1,12 @@
 use Rattle.std.proofs.Common.{◌≡◌, ◌+◌, ◌≤◌, length, drop}
+use Rattle.std.specs.Iterator.Adapters.{enumerate_source, enumerate_count}
 use Rattle.lists.specs.Bytes.{comma}
-use Rattle.lists.specs.Split.{split}
 use Rattle.lists.specs.Cursor.{left}
 use Rattle.lists.specs.LineChecks.{codes_from}
+use Rattle.lists.specs.Split.{split}
 use Rattle.lists.proofs.matrix_line.check_codes.Given as goal
 
-abbrev pub invariant-loop-field : goal.invariant-loop-field
-invariant-loop-field l = (l.fields.mark ≡ comma) × (l.k + length (left comma l.fields.rest) ≤ 20)
-    × (codes_from l.q l.line l.k (left comma l.fields.rest) ≡ codes_from l.q l.line 2 (drop 1 (split comma l.bytes)))
-
-abbrev pub decreases-loop-field : goal.decreases-loop-field
-decreases-loop-field l = length (left comma l.fields.rest)
+abbrev pub invariant-loop-k : goal.invariant-loop-k
+invariant-loop-k l =
+    let k = enumerate_count l.k-iterator in let fields = left comma (enumerate_source l.k-iterator).rest in
+    (k + length fields ≤ 16) × (codes_from l.q l.line.number (k + 2) fields ≡ codes_from l.q l.line.number 2 (drop 1 (split comma l.line.bytes.now)))

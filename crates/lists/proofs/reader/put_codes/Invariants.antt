@@ -6,8 +6,6 @@ use Rattle.lists.specs.Places.{written}
 use Rattle.lists.proofs.reader.put_codes.Given as goal
 
 abbrev pub invariant-loop-line : goal.invariant-loop-line
-invariant-loop-line l = (l.at + length (flat (matrices_in (left line_end l.lines.parts.rest))) ≡ length (flat (matrices_in (left line_end l.initial.lines.parts.rest))))
-    × (written l.at (flat (matrices_in (left line_end l.lines.parts.rest))) l.place ≡ written 0 (flat (matrices_in (left line_end l.initial.lines.parts.rest))) l.initial.place)
-
-abbrev pub decreases-loop-line : goal.decreases-loop-line
-decreases-loop-line l = length (left line_end l.lines.parts.rest)
+invariant-loop-line l =
+    let codes = flat (matrices_in (left line_end l.line-iterator.parts.rest)) in let all = flat (matrices_in (left line_end l.fn.lines.parts.rest)) in
+    (l.at + length codes ≡ length all) × (written l.at codes l.place ≡ written 0 all l.initial.place)

@@ -1,8 +1,12 @@
-use Rattle.std.proofs.Common.{ℕ, max, get_or, ap, ◌∙◌}
-use Rattle.runs.proofs.DegreeLoops.{greatest_more}
+use Rattle.std.proofs.Common.{◌≡◌, ℕ, ◌<◌, ◌≤◌, length, MatchOption, ◌∙◌, rules}
+use Rattle.runs.specs.Views.{degree_at}
+use Rattle.runs.proofs.DegreeChains.{maximum_is_greatest}
 use Rattle.runs.proofs.degrees.greatest_of.Goals as goal
 
-pub loop-j-preserved : goal.loop-j-preserved
-loop-j-preserved c =
-    c.max-most.ensures ∙ ap (λ (x : ℕ). max x (get_or c.args.degrees.now c.loop-j.j 0)) c.loop-j.invariant
-    ∙ greatest_more (λ j. get_or c.args.degrees.now j 0) c.loop-j.j
+pub returns : goal.returns
+returns c =
+    let n = length c.args.columns.now in
+    let d = degree_at c.args.columns.now in
+    let above : MatchOption c.max.result (n ≡ 0) (λ m. (i : ℕ) → i < n → d i ≤ m) = search rules in
+    let among : MatchOption c.max.result (n ≡ 0) (λ m. (i : ℕ) × (i < n) × (d i ≡ m)) = search rules in
+    c.unwrap_or.ensures ∙ maximum_is_greatest n d c.max.result above among

@@ -7,8 +7,8 @@ use Rattle.runs.proofs.FromLaws.{tabular}
 use Rattle.runs.proofs.OneStep.{step_holds, low_degrees, run_more}
 use Rattle.runs.proofs.step.step.Goals as goal
 
-pub raise-requires : goal.raise-requires
-raise-requires g c =
+pub shift-requires-clause-room : goal.shift-requires-clause-room
+shift-requires-clause-room g c =
     let q = g.F.Ring.size in
     let m = g.F.Ring.means c.args.field in
     let inv = g.F.Field.inverse c.args.field in
@@ -16,13 +16,10 @@ raise-requires g c =
     let N = c.args.state.now.size in
     let n = c.args.state.now.count in
     let M = matrices_of N c.args.state.now.matrices in
-    record {
-      size = c.requires.size;
-      room = low_degrees a N M n (run (operations_of a) N N M n) c.rows.new.columns (tabular q m inv (g.met.F.Ring.lawful c.args.field) (g.met.F.Field.inverts c.args.field) N M n N c.requires.room (omega arith)) c.rows.ensures;
-    }
+    low_degrees a N M n (run (operations_of a) N N M n) c.eliminate.new.columns (tabular q m inv (g.met.F.Ring.lawful c.args.field) (g.met.F.Field.inverts c.args.field) N M n N c.requires.room (omega arith)) c.eliminate.ensures
 
-pub returns : goal.returns
-returns g c =
+pub returns-clause-holds : goal.returns-clause-holds
+returns-clause-holds g c =
     let q = g.F.Ring.size in
     let m = g.F.Ring.means c.args.field in
     let inv = g.F.Field.inverse c.args.field in
@@ -30,10 +27,5 @@ returns g c =
     let N = c.args.state.now.size in
     let n = c.args.state.now.count in
     let M = matrices_of N c.args.state.now.matrices in
-    record {
-      holds = run_more a N M n _
-          (step_holds a N M n (run (operations_of a) N N M n) c.rows.new.columns _ (tabular q m inv (g.met.F.Ring.lawful c.args.field) (g.met.F.Field.inverts c.args.field) N M n N c.requires.room (omega arith)) c.rows.ensures refl refl c.shift.ensures c.raise.ensures);
-      count = refl;
-      matrices = refl;
-      size = refl;
-    }
+    run_more a N M n _
+    (step_holds a N M n (run (operations_of a) N N M n) c.eliminate.new.columns _ (tabular q m inv (g.met.F.Ring.lawful c.args.field) (g.met.F.Field.inverts c.args.field) N M n N c.requires.room (omega arith)) c.eliminate.ensures refl c.shift.ensures.shifted c.shift.ensures.degrees)

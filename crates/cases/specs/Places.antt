@@ -1,0 +1,11 @@
+use Rattle.std.specs.Prelude.{ℕ, Bool, List, length, take, drop, nat_le, ◌&&◌, Result, Ok, Err, if◌then◌else◌}
+use Rattle.std.specs.List.{list_all}
+use Rattle.cases.specs.declared.error.CallError.{CallError}
+use Rattle.cases.specs.declared.error.CallError.TheVariants.{WrittenElsewhere}
+
+-- what a call wrote to the front of a place, if all behind it is blank
+abbrev pub written_in : {A : Type 0} → (A → A → Bool) → ℕ → A → List A → Result (List A) CallError
+written_in eq n blank place =
+    if nat_le n (length place) && list_all (λ x. eq x blank) (drop n place)
+    then Ok (take n place)
+    else Err WrittenElsewhere

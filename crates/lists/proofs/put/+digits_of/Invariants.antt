@@ -1,4 +1,0 @@
-use Rattle.lists.proofs.put.+digits_of.Given as goal
-
-abbrev pub decreases-digits_of : goal.decreases-digits_of
-decreases-digits_of l = l.n

@@ -1,5 +1,0 @@
-use Rattle.own_field.specs.Inverses.{entry_is_power, entry_inverts}
-use Rattle.own_field.proofs.mod7.inverse_at.Goals as goal
-
-pub returns : goal.returns
-returns c = record { entry = entry_is_power c.args.a c.requires; rule = entry_inverts c.args.a c.requires }

@@ -1,5 +1,0 @@
-use Rattle.std.proofs.Common.{◌∙◌, arith, take_at}
-use Rattle.verdicts.proofs.misfit.generator.Goals as goal
-
-pub returns : goal.returns
-returns g c = take_at c.fill.new.place _ _ (omega arith) ∙ c.fill.ensures
