@@ -14,7 +14,7 @@ pub use calls::Calls;
 pub use codes::Codes;
 pub use error::CallError;
 pub use parts::Part;
-pub use place::written;
+pub use place::{holds, written};
 pub use tally::Tally;
 pub use text::Text;
 pub use trials::try_cases;

@@ -1,6 +1,6 @@
 ghost use Rattle.std.specs.Prelude.{◌≡◌, Ok, Err};
 ghost use Rattle.std.specs.List.{list_all};
-ghost use Rattle.cases.specs.Places.{written_in};
+ghost use Rattle.cases.specs.Places.{held_in, written_in};
 
 use crate::error::CallError;
 
@@ -8,6 +8,16 @@ fn is_blank<T: Copy + Eq>(place: &[T], blank: T) -> bool
     ensures { result ≡ list_all (λ x. T.eq x blank) place.now }
 {
     place.iter().all(|x| *x == blank)
+}
+
+// Whether a place begins with a front and is blank behind it.
+pub fn holds<T: Copy + Eq>(place: &[T], front: &[T], blank: T) -> bool
+    ensures { result ≡ held_in T.eq front.now blank place.now }
+{
+    match place.strip_prefix(front) {
+        Some(rest) => is_blank(rest, blank),
+        None => false,
+    }
 }
 
 // What a call wrote to the front of a place that was lent blank, if all behind it is blank yet.

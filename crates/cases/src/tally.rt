@@ -1,5 +1,6 @@
 ghost use Rattle.std.specs.Prelude.{◌≡◌, ◌+◌, ◌<◌, ◌≤◌, ◌↔◌, IsTrue, if◌then◌else◌, min, codes};
 
+use std::fmt::Display;
 use std::io;
 
 // What was tried so far, how much of it came out as it should, and where that is told.
@@ -30,7 +31,7 @@ impl<'a> Tally<'a> {
     }
 
     // Counts one trial, and answers the word that closes its line.
-    pub fn count(&mut self, right: bool) -> &'static str
+    pub(crate) fn count(&mut self, right: bool) -> &'static str
         ensures tried { self.new.tried ≡ min (self.old.tried + 1) u64.MAX }
         ensures right { self.new.right ≡ (if right then min (self.old.right + 1) u64.MAX else self.old.right) }
         ensures word { result.now ≡ (if right then codes "right" else codes "WRONG") }
@@ -42,6 +43,15 @@ impl<'a> Tally<'a> {
         } else {
             "WRONG"
         }
+    }
+
+    // Counts one trial, and tells it on a line of its own.
+    pub fn tell(&mut self, what: impl Display + Drop, right: bool) -> io::Result<()>
+        ensures tried { self.new.tried ≡ min (self.old.tried + 1) u64.MAX }
+        ensures right { self.new.right ≡ (if right then min (self.old.right + 1) u64.MAX else self.old.right) }
+    {
+        let word = self.count(right);
+        println!(self.rt; "{what}, {word}")
     }
 
     // Whether something was tried and all of it came out right.

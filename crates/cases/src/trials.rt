@@ -38,7 +38,7 @@ fn try_line<C: Calls>(calls: &mut C, tally: &mut Tally<'_>, line: &str) -> io::R
     }
     let (call, due) = line.split_once(" -> ").unwrap_or((line, ""));
     match misfit_in_short(rt.alloc(), calls, call, due) {
-        Ok(None) => println!(rt; "{line}, {}", tally.count(true)),
+        Ok(None) => tally.tell(line, true),
         Ok(Some(came)) => println!(rt; "{line}, {}: {came} came", tally.count(false)),
         Err(error) => println!(rt; "{line}, {}: {error}", tally.count(false)),
     }

@@ -17,9 +17,8 @@ pub fn handed_out(tally: &mut Tally<'_>) -> io::Result<()> {
         && hands_out(&mut lines, 3, b"E,0")
         && lines.next_line().is_none()
         && lines.next_line().is_none();
-    let word = tally.count(right);
-    println!(tally.rt(); "three lines handed out, the second empty, {word}")?;
+    tally.tell("three lines handed out, the second empty", right)?;
     let mut lines = Lines::new(b"S,B,1,0\nE,0");
-    let word = tally.count(lines.next_line().is_none());
-    println!(tally.rt(); "no line of a file without its last line end, {word}")
+    let right = lines.next_line().is_none();
+    tally.tell("no line of a file without its last line end", right)
 }

@@ -1,6 +1,6 @@
 use crate::header::Said;
-use crate::place::{UNTOUCHED_BYTE, UNTOUCHED_CODE, holds};
-use cases::Tally;
+use crate::place::{UNTOUCHED_BYTE, UNTOUCHED_CODE};
+use cases::{Tally, holds};
 use lists::{FileFault, Found, Listing, read, write};
 use std::io;
 
@@ -60,20 +60,25 @@ impl File<'_> {
         let right = told && holds(&place, codes, UNTOUCHED_CODE);
         match answer {
             Ok((header, count)) => {
-                let word = tally.count(right && written_as(self.bytes, header, codes));
                 let letter = header.letter.byte() as char;
                 let size = header.size;
                 let bound = header.bound;
-                println!(tally.rt();
-                    "{what}: ring {letter}, size {size}, bound {bound}, {count} matrices, {word}"
+                let right = right && written_as(self.bytes, header, codes);
+                tally.tell(
+                    format_args!(
+                        "{what}: ring {letter}, size {size}, bound {bound}, {count} matrices"
+                    ),
+                    right,
                 )
             }
             Err(fault) => {
-                let word = tally.count(right);
                 let number = fault.number();
                 let line = fault.line();
                 let field = fault.field();
-                println!(tally.rt(); "{what}: {number} at line {line}, field {field}, {word}")
+                tally.tell(
+                    format_args!("{what}: {number} at line {line}, field {field}"),
+                    right,
+                )
             }
         }
     }

@@ -1,6 +1,6 @@
 use crate::header::{Said, header};
-use crate::place::{UNTOUCHED_BYTE, holds};
-use cases::Tally;
+use crate::place::UNTOUCHED_BYTE;
+use cases::{Tally, holds};
 use lists::RingLetter::{B, P, Y};
 use lists::WholeFault::Place;
 use lists::{WriteFault, write};
@@ -45,10 +45,10 @@ impl List<'_> {
         );
         let told = answer == self.due.map(|text| text.len());
         let held = holds(&place, self.due.unwrap_or(b""), UNTOUCHED_BYTE);
-        let word = tally.count(told && held);
+        let right = told && held;
         match answer {
-            Ok(n) => println!(tally.rt(); "writing {what}: {n} bytes, {word}"),
-            Err(fault) => println!(tally.rt(); "writing {what}: {}, {word}", fault.number()),
+            Ok(n) => tally.tell(format_args!("writing {what}: {n} bytes"), right),
+            Err(fault) => tally.tell(format_args!("writing {what}: {}", fault.number()), right),
         }
     }
 }

@@ -1,5 +1,4 @@
 use crate::mod7::Mod7;
-use crate::tell::tell;
 use cases::Tally;
 use recurrences::Refusal;
 use rings::{Field, Ring};
@@ -33,15 +32,15 @@ fn writes<const N: usize, C: FnOnce(&mut [u32]) -> Result<(), Refusal>>(
 // The columns of the settled run, and the three matrices that the machine gives next.
 pub fn called(tally: &mut Tally<'_>) -> io::Result<()> {
     let Ok(run) = settled() else {
-        return tell(tally, "the run is refused", false);
+        return tally.tell("the run is refused", false);
     };
     let first = writes(|place| run.column(1, place), [1, 0, 0, 1, 1, 5]);
-    tell(tally, "column 1", first)?;
+    tally.tell("column 1", first)?;
     let second = writes(|place| run.column(2, place), [1, 1, 5, 0]);
-    tell(tally, "column 2", second)?;
+    tally.tell("column 2", second)?;
     let next = writes(
         |place| run.continuation(3, place),
         [1, 6, 1, 1, 6, 3, 3, 6, 1, 4, 2, 4],
     );
-    tell(tally, "continuation of 3", next)
+    tally.tell("continuation of 3", next)
 }

@@ -4,7 +4,6 @@ mod called;
 mod mod7;
 mod replayed;
 mod scripts;
-mod tell;
 
 use cases::Tally;
 use std::io;

@@ -1,6 +1,5 @@
 use crate::mod7::Mod7;
 use crate::scripts::{CALLS, SCRIPT};
-use crate::tell::tell;
 use cases::Tally;
 use recurrences::Refusal;
 use rings::{Field, Ring};
@@ -34,10 +33,10 @@ fn replay_into(size: usize, bound: usize, answers: &mut [Answer]) -> Result<(), 
 pub fn replayed(tally: &mut Tally<'_>) -> io::Result<()> {
     let mut answers = [Answer::Done; CALLS];
     let came = replay_into(2, 3, &mut answers);
-    tell(tally, "the script is replayed", came.is_ok())?;
+    tally.tell("the script is replayed", came.is_ok())?;
     for (i, (answer, (_, due))) in answers.iter().zip(&SCRIPT).enumerate() {
         let told = Told(*answer);
-        tell(tally, format_args!("answer {i}: {told}"), answer == due)?;
+        tally.tell(format_args!("answer {i}: {told}"), answer == due)?;
     }
     Ok(())
 }
@@ -46,16 +45,11 @@ pub fn replayed(tally: &mut Tally<'_>) -> io::Result<()> {
 pub fn refused(tally: &mut Tally<'_>) -> io::Result<()> {
     let mut answers = [Answer::Done; CALLS];
     let size = replay_into(5, 3, &mut answers);
-    tell(tally, "a size of 5 is refused", size == Err(Refusal::Size))?;
+    tally.tell("a size of 5 is refused", size == Err(Refusal::Size))?;
     let bound = replay_into(2, 65, &mut answers);
-    tell(
-        tally,
-        "a bound of 65 is refused",
-        bound == Err(Refusal::Bound),
-    )?;
+    tally.tell("a bound of 65 is refused", bound == Err(Refusal::Bound))?;
     let length = replay_into(2, 3, &mut answers[0..CALLS - 1]);
-    tell(
-        tally,
+    tally.tell(
         "a list one answer short is refused",
         length == Err(Refusal::Length),
     )

@@ -1,4 +1,5 @@
 use crate::shown::{Listed, Refused, Stands};
+use cases::holds;
 use recurrences::Refusal;
 use runs::standing::Standing;
 use std::fmt;
@@ -16,13 +17,6 @@ pub enum Came<'a> {
     Refused(Refusal),
 }
 
-// Whether a place holds the codes due, and zeros behind them.
-fn holds(place: &[u32], due: &[u32]) -> bool {
-    place
-        .strip_prefix(due)
-        .is_some_and(|behind| behind.iter().all(|code| *code == 0))
-}
-
 pub fn is_unwritten(place: &[u32]) -> bool {
     place.iter().all(|code| *code == UNWRITTEN)
 }
@@ -30,7 +24,8 @@ pub fn is_unwritten(place: &[u32]) -> bool {
 impl Came<'_> {
     pub fn is(self, due: Came<'_>) -> bool {
         match (self, due) {
-            (Came::Codes(place), Came::Codes(codes)) => holds(place, codes),
+            // Behind the codes due a place holds zeros.
+            (Came::Codes(place), Came::Codes(codes)) => holds(place, codes, 0),
             _ => self == due,
         }
     }

@@ -23,8 +23,7 @@ impl<R: Lettered> Trials<'_, '_, R> {
     // Counts a trial, and tells it on a line of its own.
     pub fn tell(&mut self, line: impl Display + Drop, right: bool) -> io::Result<()> {
         let letter = R::LETTER;
-        let mark = self.tally.count(right);
-        println!(self.tally.rt(); "{letter}{line}, {mark}")
+        self.tally.tell(format_args!("{letter}{line}"), right)
     }
 }
 
