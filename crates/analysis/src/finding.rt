@@ -104,7 +104,8 @@ impl<'a, F: Field> Finding<'a, F> {
         put_line(&[b'C', b',', b'1' + j as u8], codes, place)
     }
 
-    // The same of all generator columns, unless the bound is insufficient.
+    // The same of all generator columns, unless the bound is insufficient. A column is asked for by its number, and
+    // where its line begins is known only behind the line before.
     fn put_columns(&self, place: &mut [u8]) -> usize
         requires { let r = self.now.run.now in length (columns_under (arithmetic F.Field r.field) r.state.size (recorded r.state) self.now.verdict) ≤ length place.old }
         ensures length { let r = self.now.run.now in result ≡ length (columns_under (arithmetic F.Field r.field) r.state.size (recorded r.state) self.now.verdict) }

@@ -56,12 +56,9 @@ impl<F: Field> Lanes<F> {
         ensures below { result < self.size }
         ensures none { equations_of equations.now result left c ≡ 0 → (j : ℕ) → c ≤ j → j < self.size → equations_of equations.now j left c ≡ 0 }
     {
-        for j in c..self.size {
-            if equations[j].vector.entries[c] != 0 {
-                return j;
-            }
-        }
-        c
+        (c..self.size)
+            .find(|j| equations[*j].vector.entries[c] != 0)
+            .unwrap_or(c)
     }
 
     // By one equation from c on whose entry c is not 0, and which comes to stand at c, that entry becomes 0 in all others.

@@ -52,7 +52,8 @@ impl<'a, F: Field> Ahead<'a, F> {
         total
     }
 
-    // Entry r of what the coefficients of a column, without the constant one, give at the end.
+    // Entry r of what the coefficients of a column, without the constant one, give at the end. k + 1 is the place of a
+    // coefficient and the distance back to its matrix.
     fn entry_behind(&self, r: usize, column: &Column) -> u32
         requires row { r < self.now.run.now.state.size }
         requires degree { column.now.degree < 130 }

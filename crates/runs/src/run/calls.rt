@@ -119,7 +119,7 @@ impl<F: Field> Run<F> {
         let least = least_of(auxiliaries);
         Standing {
             phase: phase_of(self.bound, total, greatest, least),
-            taken: self.state.count,
+            taken: self.taken(),
             total,
             greatest,
             least,

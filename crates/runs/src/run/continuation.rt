@@ -17,7 +17,8 @@ use crate::tables::Matrix;
 use recurrences::{GREATEST_CONTINUATION, Refusal};
 use rings::{Field, Ring};
 
-// Writes the codes of a matrix, row by row, from a start on.
+// Writes the codes of a matrix, row by row, from a start on. The row and the column are both read off t, so a walk along
+// the place would have to count t as well.
 fn write_matrix(size: usize, matrix: &Matrix, start: usize, place: &mut [u32])
     requires some { 0 < size }
     requires size { size ≤ 4 }

@@ -1,6 +1,6 @@
 use Rattle.std.proofs.Common.{ℕ, List, ◌++◌, drop, replicate, arith}
 use Rattle.std.proofs.lemmas.List.{length-take-le}
-use Rattle.runs.proofs.Cut.{cut_to, get_or_zeros}
+use Rattle.runs.proofs.Cut.{cut_to}
 use Rattle.runs.proofs.Part.{part_more}
 use Rattle.runs.proofs.lanes.Lanes.solution_row.Goals as goal
 

@@ -5,7 +5,7 @@ use Rattle.recurrences.specs.Columns.{Columns}
 use Rattle.runs.specs.Operations.{operations_of}
 use Rattle.runs.specs.Views.{no_column}
 use Rattle.runs.specs.declared.tables.Column.{Column}
-use Rattle.runs.proofs.Recalled.{columns_recorded}
+use Rattle.runs.proofs.Recalled.{columns_recorded, least_same, shown_same}
 use Rattle.runs.proofs.run.Run.auxiliaries.Goals as goal
 
 pub returns-clause-degrees : goal.returns-clause-degrees
@@ -15,3 +15,9 @@ returns-clause-degrees g c = λ j h.
     let a = reading g.F.Ring.size (g.F.Ring.means run.field) (g.F.Field.inverse run.field) in
     ap (λ (x : Column). x.degree) (get_or-take s.size s.columns.auxs j no_column h)
     ∙ run.sound.aux_degrees j h ∙ ap (λ (x : Columns (operations_of a).ring). x.aux_degree j) (sym (columns_recorded a s run.sound.some))
+
+pub returns-clause-least : goal.returns-clause-least
+returns-clause-least g c = least_same c.args.self.now.state.size _ _ (returns-clause-degrees g c)
+
+pub returns-clause-shown : goal.returns-clause-shown
+returns-clause-shown g c = shown_same c.args.self.now.state.size _ _ (returns-clause-degrees g c)

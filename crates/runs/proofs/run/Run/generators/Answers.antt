@@ -5,7 +5,8 @@ use Rattle.recurrences.specs.Columns.{Columns}
 use Rattle.runs.specs.Operations.{operations_of}
 use Rattle.runs.specs.Views.{no_column, degree_at, column_of}
 use Rattle.runs.specs.declared.tables.Column.{Column}
-use Rattle.runs.proofs.Recalled.{columns_recorded}
+use Rattle.recurrences.proofs.Totals.{total_cong}
+use Rattle.runs.proofs.Recalled.{columns_recorded, greatest_same, shown_same}
 use Rattle.runs.proofs.RunFacts.{low_degree}
 use Rattle.runs.proofs.run.Run.generators.Goals as goal
 
@@ -31,3 +32,12 @@ returns-clause-low g c = λ j h.
     let s = run.state in
     let same : degree_at (take s.size s.columns.gens) j ≡ degree_at s.columns.gens j = ap (λ (x : Column). x.degree) (get_or-take s.size s.columns.gens j no_column h) in
     omega (arith, low_degree g.F.Field g.F.Ring g.met.F.Ring.lawful g.met.F.Field.inverts c.args.self.now j h)
+
+pub returns-clause-total : goal.returns-clause-total
+returns-clause-total g c = total_cong c.args.self.now.state.size _ _ (returns-clause-degrees g c)
+
+pub returns-clause-greatest : goal.returns-clause-greatest
+returns-clause-greatest g c = greatest_same c.args.self.now.state.size _ _ (returns-clause-degrees g c)
+
+pub returns-clause-shown : goal.returns-clause-shown
+returns-clause-shown g c = shown_same c.args.self.now.state.size _ _ (returns-clause-degrees g c)

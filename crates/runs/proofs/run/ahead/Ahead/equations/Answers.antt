@@ -1,4 +1,4 @@
-use Rattle.std.proofs.Common.{ltb, ◌++◌, drop, refl, ◌∙◌, arith}
+use Rattle.std.proofs.Common.{ltb, ◌++◌, drop, ◌∙◌, arith}
 use mathlib.Core.Path.{fun_ext}
 use Rattle.std.proofs.lemmas.Bool.{cond-true, lt-ltb}
 use Rattle.std.proofs.lemmas.List.{length-take-le}

@@ -1,7 +1,7 @@
 use Rattle.std.proofs.Common.{ℕ, List, ◌++◌, drop, replicate, ap, ◌∙◌, arith}
 use Rattle.std.proofs.lemmas.List.{length-take-le}
 use Rattle.rings.specs.Arithmetic.{reading}
-use Rattle.runs.proofs.Cut.{cut_to, get_or_zeros}
+use Rattle.runs.proofs.Cut.{cut_to}
 use Rattle.runs.proofs.Part.{part_more}
 use Rattle.runs.proofs.run.ahead.Ahead.values.Goals as goal
 
