@@ -9,6 +9,7 @@ pub mod PowerTheorems
 pub mod Powers
 pub mod PowersCheck
 pub mod PowersOfThree
+pub mod Tables
 pub mod BinaryLaws
 pub mod ByteLaws
 pub mod AllBelowLemmas

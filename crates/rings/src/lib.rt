@@ -11,6 +11,7 @@ pub mod power_theorems;
 mod powers;
 mod powers_of_three;
 pub mod ring;
+pub mod tie;
 pub mod words;
 
 pub use binary::Binary;
@@ -21,4 +22,5 @@ pub use mod101::Mod101;
 pub use numbers::below;
 pub use power_theorems::{powers_make_a_field, powers_of_three_make_the_byte_field};
 pub use ring::{Ring, is_code};
+pub use tie::Tie;
 pub use words::Words;
