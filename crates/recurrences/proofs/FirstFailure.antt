@@ -1,10 +1,11 @@
 -- The first number that passes a test, the first failing place and row, and what they tell.
-use Rattle.std.proofs.Common.{◌≡◌, ℕ, zero, suc, ◌+◌, ◌-◌, ◌<◌, ◌≤◌, Bool, true, false, cond, not, eqb, ◌≢◌, ◌⊎◌, List, Some, None, Option, sym, refl, ap, ◌∙◌, subst, ap₂, inl, inr, ⊎_elim, true≢false, add-one, arith}
+use Rattle.std.proofs.Common.{◌≡◌, ℕ, zero, suc, ◌+◌, ◌-◌, ◌<◌, ◌≤◌, Bool, true, false, cond, not, eqb, ◌≢◌, ◌⊎◌, List, Some, None, Ok, Err, Option, Result, sym, refl, ap, ◌∙◌, subst, ap₂, inl, inr, ⊎_elim, true≢false, add-one, arith}
 use Rattle.std.specs.List.{find, range_with_len}
 use mathlib.Core.Bool.{false≢true}
 use Rattle.std.proofs.lemmas.Bool.{cases_lt, eqb-true, eq-eqb}
 use Rattle.rings.specs.Meaning.{Meaning}
-use Rattle.recurrences.specs.Fits.{first, first_failure, fails, column_discrepancy, matrix_count, Told}
+use Rattle.recurrences.specs.declared.refusal.Refusal.{Refusal}
+use Rattle.recurrences.specs.Fits.{first, first_failure, fails, fits_answer, fits_refusal, column_discrepancy, matrix_count, Told}
 
 here_or_later : (from i : ℕ) → from ≤ i → (from ≡ i) ⊎ (suc from ≤ i)
 here_or_later from i h = ⊎_elim (λ (p : from < i). inr p) (λ (p : i ≤ from). inl (omega arith)) (cases_lt from i)
@@ -115,3 +116,15 @@ module _ (q : ℕ) (m : Meaning) (N d : ℕ) (list column : List ℕ) where
         };
         none_if_it_fits = λ f. absurd (not_zero_there p.0 (p.1 - 1) t.4 (f p.0 (p.1 - 1) t.0 (omega (arith, e, t.0, t.1)) (omega (arith, t.2, t.3))));
       }
+
+  abbrev Answers : Result (Option (ℕ × ℕ)) Refusal → Type 0
+  Answers (Ok a) = Told q m N d list column a
+  Answers (Err e) = fits_refusal q N d list column ≡ Some e
+
+  -- what the answer of the fit check tells
+  pub answer_told : (r : Result (Option (ℕ × ℕ)) Refusal) → r ≡ fits_answer q m N d list column → Answers r
+  answer_told r e = subst Answers (sym e) (by (fits_refusal q N d list column) refl)
+    where
+      by : (o : Option Refusal) → fits_refusal q N d list column ≡ o → Answers (elim o [ Some e ↦ Err e | None ↦ Ok (search_from d (matrix_count q m N d list column - d)) ])
+      by None e = failure_told (matrix_count q m N d list column - d) refl
+      by (Some x) e = e

@@ -1,7 +1,7 @@
 ghost use Rattle.std.specs.Prelude.{◌≡◌};
 ghost use Rattle.recurrences.specs.Codes.{all_codes};
 
-use rings::Ring;
+use rings::{Ring, is_code};
 
 // Whether each number is a code of a ring of that size.
 pub fn are_below(size: u64, numbers: &[u32]) -> bool
@@ -13,5 +13,5 @@ pub fn are_below(size: u64, numbers: &[u32]) -> bool
 pub fn are_codes<R: Ring>(numbers: &[u32]) -> bool
     ensures { result ≡ all_codes R.size numbers.now }
 {
-    are_below(R::size(), numbers)
+    numbers.iter().all(|x| is_code::<R>(*x))
 }

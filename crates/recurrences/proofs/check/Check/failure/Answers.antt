@@ -1,5 +1,5 @@
 use Rattle.std.proofs.Common.{◌*◌, length, sym, ◌∙◌}
-use Rattle.recurrences.proofs.FirstFailure.{failure_here, failure_later, failure_done}
+use Rattle.recurrences.proofs.FirstFailure.{failure_later, failure_done}
 use Rattle.recurrences.proofs.Rooms.{matrix_room}
 use Rattle.recurrences.proofs.check.Check.failure.Goals as goal
 
@@ -7,12 +7,6 @@ pub failing_row-requires : goal.failing_row-requires
 failing_row-requires g c =
     let s = c.args.self.now in
     record { place_inside = matrix_room c.loop-place.place (s.size * s.size) (length s.list.now) c.loop-place-test.true }
-
-pub returns-in-Some : goal.returns-in-Some
-returns-in-Some g c =
-    let s = c.args.self.now in
-    let here = failure_here g.R.Ring.size (g.R.Ring.means s.ring) s.size s.degree s.list.now s.column.now c.loop-place.place _ c.in-Some.row c.loop-place-test.true (sym c.in-Some.ensures.row) in
-    cc
 
 pub loop-place-preserved : goal.loop-place-preserved
 loop-place-preserved g c =
