@@ -1,5 +1,6 @@
 ghost use Rattle.std.specs.Prelude.{◌≡◌, [], ◌++◌, length, Some, None, Ok, Err};
 ghost use Rattle.rings.specs.Arithmetic.{arithmetic};
+ghost use Rattle.runs.specs.declared.script.Call.TheVariants.{Column, Continuation};
 ghost use Rattle.runs.specs.Recorded.{recorded};
 ghost use Rattle.runs.specs.Scripts.{accepted_by, answer_to, replay_refusal, Replayed};
 
@@ -12,6 +13,22 @@ use rings::{Field, Ring};
 const LONG: usize = 1025;
 
 impl<F: Field> Run<F> {
+    // The place stands in a function of each call that writes one, so that no other call pays for it.
+    fn column_answer(&self, number: usize, length: usize) -> Answer
+        ensures { result ≡ answer_to (arithmetic F.Field self.now.field) self.now.state.size self.now.bound (recorded self.now.state) (Column number length) }
+    {
+        let mut place = [0; LONG];
+        self.column(number, &mut place[..length.min(LONG)]).into()
+    }
+
+    fn continuation_answer(&self, count: usize, length: usize) -> Answer
+        ensures { result ≡ answer_to (arithmetic F.Field self.now.field) self.now.state.size self.now.bound (recorded self.now.state) (Continuation count length) }
+    {
+        let mut place = [0; LONG];
+        self.continuation(count, &mut place[..length.min(LONG)])
+            .into()
+    }
+
     // Makes a call, with a place of the length told, or of 1,025 numbers where that is more.
     fn answer(&mut self, call: Call<'_>) -> Answer
         ensures answer { result ≡ answer_to (arithmetic F.Field self.old.field) self.old.state.size self.old.bound (recorded self.old.state) call.entry }
@@ -20,16 +37,11 @@ impl<F: Field> Run<F> {
         ensures size { self.new.state.size ≡ self.old.state.size }
         ensures bound { self.new.bound ≡ self.old.bound }
     {
-        let mut place = [0; LONG];
         match call {
             Call::Offer(matrix) => self.offer(matrix).into(),
             Call::Standing => Answer::Stands(self.standing()),
-            Call::Column(number, length) => self
-                .column(number, &mut place[..length.min(LONG)])
-                .into(),
-            Call::Continuation(count, length) => self
-                .continuation(count, &mut place[..length.min(LONG)])
-                .into(),
+            Call::Column(number, length) => self.column_answer(number, length),
+            Call::Continuation(count, length) => self.continuation_answer(count, length),
         }
     }
 

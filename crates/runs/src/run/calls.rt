@@ -77,6 +77,7 @@ impl<F: Field> Run<F> {
         self.standing().phase
     }
 
+    #[tactic(auto, using(crate::proofs::Taking::recorded_grows))]
     fn accept(&mut self, matrix: &[u32])
         requires running { phase_after (arithmetic F.Field self.old.field) self.old.state.size self.old.bound (recorded self.old.state) ≡ Running }
         requires length { length matrix.now ≡ self.old.state.size * self.old.state.size }
