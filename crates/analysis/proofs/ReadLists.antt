@@ -7,7 +7,7 @@ use Rattle.recurrences.specs.declared.refusal.Refusal.{Refusal}
 use Rattle.recurrences.specs.declared.refusal.Refusal.TheVariants.{Length, Code}
 use Rattle.analysis.specs.Fields.{arithmetic_of}
 use Rattle.lists.specs.Checks.{then}
-use Rattle.lists.specs.Faults.{line_refused}
+use Rattle.lists.specs.Faults.{found, line_refused}
 use Rattle.lists.specs.declared.fault.LineFault.TheVariants.{Ring}
 use Rattle.lists.specs.declared.letter.RingLetter.{RingLetter}
 use Rattle.lists.specs.declared.letter.RingLetter.TheVariants.{B, P, Y, W}
@@ -22,11 +22,13 @@ use Rattle.lists.specs.Read.{read_answer}
 use Rattle.lists.specs.Rings.{size_of}
 use Rattle.lists.specs.Text.{cells}
 use Rattle.lists.specs.declared.fault.FileFault.{FileFault}
+use Rattle.lists.specs.declared.fault.FileFault.TheVariants.{InLine}
+use Rattle.lists.specs.FirstFault.{FirstFault}
 use Rattle.lists.specs.declared.fault.WholeFault.{WholeFault}
 use Rattle.lists.specs.declared.header.Header.{Header}
 use Rattle.lists.specs.declared.header.Listing.{Listing}
 use Rattle.lists.proofs.Accepted.{lines_ok}
-use Rattle.lists.proofs.FirstLetters.{letter_from}
+use Rattle.lists.proofs.FirstLetters.{faultless_before_letter, letter_from}
 use Rattle.lists.proofs.Headers.{size_least, size_greatest}
 use Rattle.lists.proofs.Listable.{Listable, all_codes_from, list_ok}
 use Rattle.lists.proofs.ReadBack.{reads_back}
@@ -132,3 +134,7 @@ module _ (b : List ℕ) (l : Listing) (place : List ℕ) (answer : Ok l ≡ read
       answered b c contents.1 before after r (sym (ap names_words (read_list b c contents.1).letter) ∙ not_words _ other) (length_is ∙ ap answer_length same)
       (place_is ∙ ap (λ (x : Result (List ℕ) FileFault). answer_place x before) same)
       (transport (λ i. Entitled (arithmetic_of (sym contents.2 i).header.letter) (sym contents.2 i).header (same_codes i)) entitles)
+
+-- the refusal of words that wrap names the first fault of a file whose header names them
+pub words_lawful : (b place : List ℕ) (e : FileFault) → letter_in (lines_handed (opened b) b) ≡ Some W → e ≡ InLine (found 1 2 Ring) → LawfulAnswer b place (Err e)
+words_lawful b place e words is = subst (FirstFault (lines_of b)) (sym is) (faultless_before_letter b W words)

@@ -4,7 +4,7 @@ ghost use Rattle.recurrences.specs.Degrees.{total};
 ghost use Rattle.recurrences.specs.Standing.{listed};
 ghost use Rattle.recurrences.specs.declared.phase.Phase.TheVariants.{Short};
 ghost use Rattle.runs.specs.Recorded.{recorded};
-ghost use Rattle.runs.specs.Standings.{columns_after, count_of, phase_after};
+ghost use Rattle.runs.specs.Standings.{columns_after, count_of, phase_after, shown};
 ghost use Rattle.lists.specs.Limits.{greatest_length};
 ghost use Rattle.lists.specs.LineText.{line_text};
 ghost use Rattle.lists.specs.Places.{written};
@@ -28,6 +28,24 @@ fn put_line(start: &[u8], numbers: &[u32], place: &mut [u8]) -> usize
     write_line(start, numbers, place, 0).unwrap()
 }
 
+// How many matrices a run took, the total of its generator degrees, and these, with 0 behind them. Where the run stands tells how
+// small they are.
+fn numbers_of<F: Field>(run: &Run<F>) -> [u32; 2 + GREATEST_SIZE]
+    ensures { let N = run.now.state.size in let taken = recorded run.now.state in let d = (columns_after (arithmetic F.Field run.now.field) N taken).gen_degree in result ≡ count_of N taken ∷ total N d ∷ shown N d }
+{
+    let standing = run.standing();
+    let degrees = standing.generator_degrees;
+    // Written out, since a map over the degrees would still have to be laid out behind the two other numbers.
+    [
+        standing.taken as u32,
+        standing.total as u32,
+        degrees[0] as u32,
+        degrees[1] as u32,
+        degrees[2] as u32,
+        degrees[3] as u32,
+    ]
+}
+
 // What there is to write of a run and the verdict by it.
 #[derive(Drop)]
 pub(crate) struct Finding<'a, F: Field> {
@@ -42,27 +60,17 @@ pub(crate) struct Finding<'a, F: Field> {
 }
 
 impl<'a, F: Field> Finding<'a, F> {
-    // By a field of at most 256 codes. Where the run stands tells how small its numbers are.
+    // By a field of at most 256 codes.
     pub(crate) fn new(run: &'a Run<F>, verdict: Verdict) -> Self
         requires bytes { F.Ring.size ≤ 256 }
         requires given { ColumnsGiven (phase_after (arithmetic F.Field run.now.field) run.now.state.size run.now.bound (recorded run.now.state)) verdict }
         ensures run { result.run.now ≡ run.now }
         ensures verdict { result.verdict ≡ verdict }
     {
-        let standing = run.standing();
-        let degrees = standing.generator_degrees;
-        // Written out, since a map over the degrees would still have to be laid out behind the two other numbers.
         Finding {
             run,
             verdict,
-            numbers: [
-                standing.taken as u32,
-                standing.total as u32,
-                degrees[0] as u32,
-                degrees[1] as u32,
-                degrees[2] as u32,
-                degrees[3] as u32,
-            ],
+            numbers: numbers_of(run),
         }
     }
 
@@ -104,8 +112,22 @@ impl<'a, F: Field> Finding<'a, F> {
         put_line(&[b'C', b',', b'1' + j as u8], codes, place)
     }
 
-    // The same of all generator columns, unless the bound is insufficient. A column is asked for by its number, and
-    // where its line begins is known only behind the line before.
+    // The same of all generator columns. A column is asked for by its number, and where its line begins is known only behind the
+    // line before.
+    fn put_all_columns(&self, place: &mut [u8]) -> usize
+        requires given { self.now.verdict ≢ Insufficient }
+        requires room { let r = self.now.run.now in length (columns_under (arithmetic F.Field r.field) r.state.size (recorded r.state) self.now.verdict) ≤ length place.old }
+        ensures length { let r = self.now.run.now in result ≡ length (columns_under (arithmetic F.Field r.field) r.state.size (recorded r.state) self.now.verdict) }
+        ensures place { let r = self.now.run.now in place.new ≡ written 0 (columns_under (arithmetic F.Field r.field) r.state.size (recorded r.state) self.now.verdict) place.old }
+    {
+        let mut used = 0;
+        for j in 0..self.run.size().rows() {
+            used += self.put_column(j, &mut place[used..]);
+        }
+        used
+    }
+
+    // The same, unless the bound is insufficient.
     fn put_columns(&self, place: &mut [u8]) -> usize
         requires { let r = self.now.run.now in length (columns_under (arithmetic F.Field r.field) r.state.size (recorded r.state) self.now.verdict) ≤ length place.old }
         ensures length { let r = self.now.run.now in result ≡ length (columns_under (arithmetic F.Field r.field) r.state.size (recorded r.state) self.now.verdict) }
@@ -114,11 +136,7 @@ impl<'a, F: Field> Finding<'a, F> {
         if self.verdict == Verdict::Insufficient {
             return 0;
         }
-        let mut used = 0;
-        for j in 0..self.run.size().rows() {
-            used += self.put_column(j, &mut place[used..]);
-        }
-        used
+        self.put_all_columns(place)
     }
 
     // The same of all lines.

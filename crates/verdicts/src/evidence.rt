@@ -1,4 +1,4 @@
-ghost use Rattle.std.specs.Prelude.{◌≡◌, ◌-◌, ◌*◌, ◌%◌, ◌<◌, true, length};
+ghost use Rattle.std.specs.Prelude.{◌≡◌, ◌+◌, ◌-◌, ◌*◌, ◌%◌, ◌^◌, ◌<◌, true, length, IfSome};
 ghost use Rattle.rings.specs.Arithmetic.{arithmetic, reading};
 ghost use Rattle.recurrences.specs.Codes.{all_codes};
 ghost use Rattle.recurrences.specs.Fits.{first};
@@ -6,7 +6,7 @@ ghost use Rattle.recurrences.specs.declared.phase.Phase.TheVariants.{Settled};
 ghost use Rattle.runs.specs.Recorded.{recorded};
 ghost use Rattle.runs.specs.Standings.{count_of, phase_after};
 ghost use Rattle.verdicts.specs.Entitlements.{Entitles};
-ghost use Rattle.verdicts.specs.Misfits.{first_misfit, misfits};
+ghost use Rattle.verdicts.specs.Misfits.{first_misfit, misfits, moved};
 ghost use Rattle.verdicts.specs.Taking.{taken_of};
 ghost use Rattle.verdicts.specs.Verdicts.{verdict_on};
 
@@ -16,6 +16,14 @@ use recurrences::Phase;
 use recurrences::fits::fits;
 use rings::{Field, Ring};
 use runs::run::Run;
+
+// The place of a failure in a list whose first matrices are left out, counted in the whole list.
+fn place_of(failure: Option<(usize, usize)>, left_out: usize) -> Option<usize>
+    requires { IfSome failure (λ p. p.0 + left_out < 2 ^ 64) }
+    ensures { result ≡ moved left_out failure }
+{
+    failure.map(|(place, _row)| place + left_out)
+}
 
 // A run, and the codes of a list of whole matrices of which it took the first ones, while it was running. The verdict on the list
 // follows from the two.
@@ -43,9 +51,8 @@ impl<'a, F: Field> Evidence<'a, F> {
         let rest = &self.codes[left_out * size.cells()..];
         let mut place = [0; LONGEST_COLUMN];
         let column = generator(self.run, j, &mut place).unwrap();
-        fits(self.run.field(), size.rows(), degree, rest, column)
-            .unwrap()
-            .map(|(place, _row)| place + left_out)
+        let failure = fits(self.run.field(), size.rows(), degree, rest, column).unwrap();
+        place_of(failure, left_out)
     }
 
     // The first place behind the matrices taken at which some generator column does not fit the list.

@@ -1,11 +1,10 @@
-use Rattle.std.proofs.Common.{◌≡◌, ℕ, ◌-◌, ◌*◌, ◌≤◌, length, take, drop, get_or, None, sym, ap, ◌∙◌, subst, arith, rules}
+use Rattle.std.proofs.Common.{◌≡◌, ℕ, ◌-◌, ◌*◌, ◌≤◌, length, take, drop, get_or, None, sym, ap, ◌∙◌, subst, arith}
 use mathlib.Core.Path.{transport}
 use Rattle.std.proofs.lemmas.List.{take_rest}
 use Rattle.rings.specs.Arithmetic.{reading}
 use Rattle.recurrences.specs.Fits.{Told, fits_refusal}
 use Rattle.runs.specs.Recorded.{recorded}
 use Rattle.runs.specs.Standings.{columns_after, column_after, count_of}
-use Rattle.verdicts.specs.Misfits.{moved}
 use Rattle.verdicts.proofs.AcceptedLists.{ok_where_none, whole_matrices}
 use Rattle.verdicts.proofs.ColumnMisfits.{misfit_from_told, window_count, fit_check_accepts}
 use Rattle.verdicts.proofs.Evidences.{seen}
@@ -38,8 +37,8 @@ slice_bounds-rest-start g c =
     subst (λ (k : ℕ). (c.standing-standing.result.taken - get_or c.standing-standing.result.generator_degrees c.args.j 0) * k ≤ length e.codes.now)
     (sym (c.cells.ensures.product ∙ ap (λ (n : ℕ). n * n) c.size-size.ensures)) s.room
 
-pub unwrap-requires : goal.unwrap-requires
-unwrap-requires g c =
+pub unwrap-failure-requires : goal.unwrap-failure-requires
+unwrap-failure-requires g c =
     let e = c.args.self.now in
     let r = e.run.now in
     let q = g.F.Ring.size in
@@ -67,7 +66,6 @@ unwrap-requires g c =
 
 pub returns : goal.returns
 returns g c =
-    let moved_on : c.map.result ≡ moved (c.standing-standing.result.taken - get_or c.standing-standing.result.generator_degrees c.args.j 0) c.unwrap.result = search rules in
     let e = c.args.self.now in
     let r = e.run.now in
     let q = g.F.Ring.size in
@@ -88,9 +86,9 @@ returns g c =
     take_rest list (left_out * c.cells.result) ∙ ap (λ (k : ℕ). drop (left_out * k) list) (c.cells.ensures.product ∙ ap (λ (n : ℕ). n * n) c.size-size.ensures) in
     let column = c.unwrap-column.result.now in
     let is_column : column ≡ column_after (reading q m inv) N taken j = (rw c.unwrap-column.ensures at c.generator.ensures).1 in
-    let told : Told q m N ((columns_after (reading q m inv) N taken).gen_degree j) (drop (left_out * (N * N)) list) (column_after (reading q m inv) N taken j) c.unwrap.result =
-    transport (λ i. Told q (g.F.Ring.means (c.field.ensures i)) (size i) (s.is i) (is_window i) (is_column i) c.unwrap.result) (rw c.unwrap.ensures at c.fits.ensures.told) in
+    let told : Told q m N ((columns_after (reading q m inv) N taken).gen_degree j) (drop (left_out * (N * N)) list) (column_after (reading q m inv) N taken j) c.unwrap-failure.result =
+    transport (λ i. Told q (g.F.Ring.means (c.field.ensures i)) (size i) (s.is i) (is_window i) (is_column i) c.unwrap-failure.result) (rw c.unwrap-failure.ensures at c.fits.ensures.told) in
     let left = window_count q m inv laws inverts N (count_of N list) left_out taken list j r.sound.some r.sound.small (omega (arith, s.is, s.low)) (whole_matrices N list e.whole) (omega (arith, s.longer)) e.of_codes in
-    moved_on
+    c.place_of.ensures
     ∙ first_is _ (count_of N taken) (count_of N list - count_of N taken) _
-    (misfit_from_told q m inv N left_out taken list j (count_of N taken) (count_of N list) (omega (arith, s.is, s.counted, s.below)) (omega (arith, left, s.longer)) c.unwrap.result told)
+    (misfit_from_told q m inv N left_out taken list j (count_of N taken) (count_of N list) (omega (arith, s.is, s.counted, s.below)) (omega (arith, left, s.longer)) c.unwrap-failure.result told)

@@ -1,39 +1,27 @@
-use Rattle.std.proofs.Common.{◌≡◌, ℕ, ◌*◌, ◌≢◌, List, length, Some, Ok, Err, Result, sym, refl, ap, ◌∙◌, subst, rules, arith}
+use Rattle.std.proofs.Common.{◌≡◌, ℕ, List, length, Ok, Err, Result, sym, ap, ◌∙◌, rules, arith}
 use Rattle.std.proofs.lemmas.List.{length-take-le}
 use Rattle.lists.specs.Contents.{reading}
-use Rattle.lists.specs.FileChecks.{letter_in, lines_handed, lines_of, opened}
-use Rattle.lists.specs.FirstFault.{FirstFault}
 use Rattle.lists.specs.Laws.{LawfulRead}
 use Rattle.lists.specs.Read.{read_answer}
 use Rattle.lists.specs.declared.fault.FileFault.{FileFault}
-use Rattle.lists.specs.declared.letter.RingLetter.TheVariants.{W}
-use Rattle.lists.proofs.FirstLetters.{faultless_before_letter}
 use Rattle.analysis.specs.Analyse.{answer_length, answer_place}
 use Rattle.analysis.proofs.ReadLists.{answer_lawful, answer_of_codes, answer_to_other, codes_room, read_err, refused_to}
-use Rattle.analysis.proofs.analysing.answer_file.Goals as goal
-
-pub returns-then-eq-clause-law : goal.returns-then-eq-clause-law
-returns-then-eq-clause-law c =
-    let b = c.args.file.now in
-    let words : letter_in (lines_handed (opened b) b) ≡ Some W = search rules in
-    subst (FirstFault (lines_of b)) (sym c.no_field.ensures) (faultless_before_letter b W words)
+use Rattle.analysis.proofs.analysing.answer_list.Goals as goal
 
 pub returns-in_err-listing-clause-answer : goal.returns-in_err-listing-clause-answer
 returns-in_err-listing-clause-answer c =
     let b = c.args.file.now in
     let e = c.in_err-listing.field-0.0 in
-    let other : letter_in (lines_handed (opened b) b) ≢ Some W = search rules in
     let answer : c.from_residual.result ≡ Err e = search rules in
     let refused : reading b ≡ Err e = read_err (reading b) e (search rules) in
-    answer ∙ ap answer_length (sym (refused_to b e refused) ∙ answer_to_other b other)
+    answer ∙ ap answer_length (sym (refused_to b e refused) ∙ answer_to_other b c.requires.other)
 
 pub returns-in_err-listing-clause-place : goal.returns-in_err-listing-clause-place
 returns-in_err-listing-clause-place c =
     let b = c.args.file.now in
     let e = c.in_err-listing.field-0.0 in
-    let other : letter_in (lines_handed (opened b) b) ≢ Some W = search rules in
     let refused : reading b ≡ Err e = read_err (reading b) e (search rules) in
-    ap (λ (r : Result (List ℕ) FileFault). answer_place r c.args.answer.now) (sym (refused_to b e refused) ∙ answer_to_other b other)
+    ap (λ (r : Result (List ℕ) FileFault). answer_place r c.args.answer.now) (sym (refused_to b e refused) ∙ answer_to_other b c.requires.other)
 
 pub slice_bounds-place-end : goal.slice_bounds-place-end
 slice_bounds-place-end c =
@@ -65,8 +53,7 @@ returns-clause-answer c =
     let answer : Ok listing ≡ read_answer (reading b) = search rules in
     let law : LawfulRead b place (Ok listing) = search rules in
     let n = c.cells.result in
-    let other : letter_in (lines_handed (opened b) b) ≢ Some W = search rules in
-    c.answer_by_letter.ensures.answer ∙ ap answer_length (answer_of_codes b listing place answer law n c.cells.ensures.product ∙ answer_to_other b other)
+    c.answer_by_letter.ensures.answer ∙ ap answer_length (answer_of_codes b listing place answer law n c.cells.ensures.product ∙ answer_to_other b c.requires.other)
 
 pub returns-clause-place : goal.returns-clause-place
 returns-clause-place c =
@@ -76,8 +63,7 @@ returns-clause-place c =
     let answer : Ok listing ≡ read_answer (reading b) = search rules in
     let law : LawfulRead b place (Ok listing) = search rules in
     let n = c.cells.result in
-    let other : letter_in (lines_handed (opened b) b) ≢ Some W = search rules in
-    c.answer_by_letter.ensures.place ∙ ap (λ (r : Result (List ℕ) FileFault). answer_place r c.args.answer.now) (answer_of_codes b listing place answer law n c.cells.ensures.product ∙ answer_to_other b other)
+    c.answer_by_letter.ensures.place ∙ ap (λ (r : Result (List ℕ) FileFault). answer_place r c.args.answer.now) (answer_of_codes b listing place answer law n c.cells.ensures.product ∙ answer_to_other b c.requires.other)
 
 pub returns-clause-law : goal.returns-clause-law
 returns-clause-law c =
@@ -87,6 +73,5 @@ returns-clause-law c =
     let answer : Ok listing ≡ read_answer (reading b) = search rules in
     let law : LawfulRead b place (Ok listing) = search rules in
     let n = c.cells.result in
-    let other : letter_in (lines_handed (opened b) b) ≢ Some W = search rules in
-    answer_lawful b listing place answer law n c.cells.ensures.product other c.args.answer.now c.answer_by_letter.new.place c.answer_by_letter.result
+    answer_lawful b listing place answer law n c.cells.ensures.product c.requires.other c.args.answer.now c.answer_by_letter.new.place c.answer_by_letter.result
     c.answer_by_letter.ensures.answer c.answer_by_letter.ensures.place c.answer_by_letter.ensures.entitles

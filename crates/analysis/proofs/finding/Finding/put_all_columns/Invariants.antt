@@ -3,7 +3,7 @@ use Rattle.rings.specs.Arithmetic.{reading}
 use Rattle.runs.specs.Recorded.{recorded}
 use Rattle.lists.specs.Places.{written}
 use Rattle.analysis.specs.Answer.{column_lines}
-use Rattle.analysis.proofs.finding.Finding.put_columns.Given as goal
+use Rattle.analysis.proofs.finding.Finding.put_all_columns.Given as goal
 
 -- the lines of the first columns are written
 abbrev pub invariant-loop-j : goal.invariant-loop-j
