@@ -1,13 +1,13 @@
 ghost use Rattle.std.specs.Prelude.{◌≡◌, Ok, Err};
 ghost use Rattle.cases.specs.Parts.{number_in, codes_in, text_in};
 
-use crate::codes::read_codes;
 use crate::error::CallError;
-use crate::text::read_text;
+use crate::said::Said;
+use crate::values::Values;
 use std::alloc::Global;
-use std::num::IntErrorKind;
+use std::str;
 
-// A part of a call or of an answer. Spaces stand between the parts. A number beyond the greatest `usize` counts as that.
+// A part of a call. One space stands between two parts.
 #[derive(PartialEq, Eq, Debug, Drop)]
 pub enum Part<'a> {
     Word(&'a str),
@@ -45,34 +45,68 @@ impl Part<'_> {
     }
 }
 
-fn read_part(alloc: Global, part: &str) -> Result<Part<'_>, CallError> {
-    if let Some(list) = part.strip_prefix('[') {
-        let list = list.strip_suffix(']').ok_or(CallError::NotUnderstood)?;
-        return Ok(Part::Codes(read_codes(alloc, list)?));
+// The ring that a letter names, by its byte.
+fn ring(byte: usize) -> &'static str {
+    match u8::try_from(byte) {
+        Ok(b'B') => "B",
+        Ok(b'P') => "P",
+        Ok(b'Y') => "Y",
+        Ok(b'W') => "W",
+        _ => "@",
     }
-    Ok(match part.parse() {
-        Ok(number) => Part::Number(number),
-        Err(error) if *error.kind() == IntErrorKind::PosOverflow => Part::Number(usize::MAX),
-        Err(_) => Part::Word(part),
+}
+
+// What stands in the place of a value.
+#[derive(Clone, Copy, PartialEq, Eq)]
+enum Sign {
+    Number,
+    Letter,
+    Codes,
+    Text,
+}
+
+fn sign_of(word: &str) -> Option<Sign> {
+    match word {
+        "#" => Some(Sign::Number),
+        "@" => Some(Sign::Letter),
+        "[]" => Some(Sign::Codes),
+        "\"\"" => Some(Sign::Text),
+        _ => None,
+    }
+}
+
+// The value that is due at a sign, which has this number. Its codes begin where those before end.
+fn value<'a>(
+    alloc: Global,
+    values: &Values,
+    sign: Sign,
+    number: usize,
+    listed: usize,
+) -> Result<Part<'a>, CallError> {
+    Ok(match sign {
+        Sign::Number => Part::Number(number),
+        Sign::Letter => Part::Word(ring(number)),
+        Sign::Codes => Part::Codes(values.list(listed, number).to_vec(alloc)?),
+        Sign::Text => Part::Text(values.text(number).to_vec(alloc)?),
     })
 }
 
-pub(crate) fn read_parts(alloc: Global, text: &str) -> Result<Vec<Part<'_>>, CallError> {
+// What is said, in parts. The numbers go to the signs in their order; a sign that was itself written takes the next one too.
+pub(crate) fn parts_of(alloc: Global, said: &Said) -> Result<Vec<Part<'_>>, CallError> {
+    let words = str::from_utf8(said.words()).map_err(|_| CallError::NotUnderstood)?;
+    let mut numbers = said.values.numbers.iter().copied();
+    let mut listed = 0;
     let mut parts = Vec::new(alloc);
-    let mut quoted = false;
-    for piece in text.split('"') {
-        if quoted {
-            parts.push(Part::Text(read_text(alloc, piece)?))?;
-        } else {
-            for part in piece.split_ascii_whitespace() {
-                parts.push(read_part(alloc, part)?)?;
+    for word in words.split(' ') {
+        if let Some(sign) = sign_of(word) {
+            let number = numbers.next().unwrap_or(0);
+            parts.push(value(alloc, &said.values, sign, number, listed)?)?;
+            if sign == Sign::Codes {
+                listed = number;
             }
+        } else {
+            parts.push(Part::Word(word))?;
         }
-        quoted = !quoted;
     }
-    if quoted {
-        Ok(parts)
-    } else {
-        Err(CallError::NotUnderstood)
-    }
+    Ok(parts)
 }

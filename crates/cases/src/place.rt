@@ -1,6 +1,6 @@
-ghost use Rattle.std.specs.Prelude.{◌≡◌, Ok, Err};
+ghost use Rattle.std.specs.Prelude.{◌≡◌, Ok, Err, length, min};
 ghost use Rattle.std.specs.List.{list_all};
-ghost use Rattle.cases.specs.Places.{held_in, written_in};
+ghost use Rattle.cases.specs.Places.{held_in, written_in, put_in};
 
 use crate::error::CallError;
 
@@ -18,6 +18,16 @@ pub fn holds<T: Copy + Eq>(place: &[T], front: &[T], blank: T) -> bool
         Some(rest) => is_blank(rest, blank),
         None => false,
     }
+}
+
+// Puts a front into a place, as far as it goes in, and answers how far.
+pub fn put<T: Copy>(place: &mut [T], front: &[T]) -> usize
+    ensures place { place.new ≡ put_in front.now place.old }
+    ensures length { result ≡ min (length front.now) (length place.old) }
+{
+    let length = front.len().min(place.len());
+    place[..length].copy_from_slice(&front[..length]);
+    length
 }
 
 // What a call wrote to the front of a place that was lent blank, if all behind it is blank yet.

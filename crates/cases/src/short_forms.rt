@@ -1,17 +1,85 @@
 use crate::error::CallError;
-use std::alloc::Global;
+use crate::reader::Reader;
+use crate::said::Said;
 
-// A text with its short forms written out: {PART*N} is PART so often.
-pub(crate) fn written_out(alloc: Global, text: &str) -> Result<String, CallError> {
-    let mut pieces = text.split('{');
-    let mut out = String::from_str(alloc, pieces.next().unwrap_or(""))?;
-    for piece in pieces {
-        let (short, rest) = piece.split_once('}').ok_or(CallError::NotUnderstood)?;
-        let (part, count) = short.split_once('*').ok_or(CallError::NotUnderstood)?;
-        for _ in 0..count.parse::<u32>()? {
-            out.push_str(part)?;
-        }
-        out.push_str(rest)?;
+// Where a reading of short forms stands.
+#[derive(Clone, Copy)]
+enum Short {
+    Nothing,
+    // In a part in braces, which begins here.
+    Part(usize),
+    // In the N of a part that begins and ends here, with the N so far.
+    Times(usize, usize, usize),
+    // In the N of a byte, with the N so far.
+    Byte(usize),
+}
+
+// A text in which something is said in short: {PART*N} is PART so often, and <N> is the byte N. The two do not nest.
+#[derive(Clone, Copy)]
+struct ShortForms<'a> {
+    text: &'a [u8],
+    reader: Reader,
+    short: Short,
+}
+
+// The N that another digit makes. One of seven digits or more is no N of a byte, and repeats nothing that could be read.
+fn with_digit(n: usize, digit: u8) -> usize {
+    if n < 100000 {
+        n * 10 + digit as usize
+    } else {
+        n
     }
-    Ok(out)
+}
+
+impl ShortForms<'_> {
+    // The part was taken once.
+    fn repeat(&mut self, from: usize, to: usize, times: usize) -> Result<(), CallError> {
+        let part = self.text.get(from..to).unwrap_or(&[]);
+        for _ in 1..times {
+            for byte in part {
+                self.reader.take(*byte)?;
+            }
+        }
+        self.short = Short::Nothing;
+        Ok(())
+    }
+
+    fn take(&mut self, at: usize, byte: u8) -> Result<(), CallError> {
+        match (self.short, byte) {
+            (Short::Nothing, b'{') => self.short = Short::Part(at.saturating_add(1)),
+            (Short::Nothing, b'<') => self.short = Short::Byte(0),
+            (Short::Part(from), b'*') => self.short = Short::Times(from, at, 0),
+            (Short::Nothing | Short::Part(_), b'{' | b'}' | b'<' | b'>' | b'*') => {
+                return Err(CallError::NotUnderstood);
+            }
+            (Short::Nothing | Short::Part(_), _) => return self.reader.take(byte),
+            (Short::Times(from, to, n), b'0'..=b'9') => {
+                self.short = Short::Times(from, to, with_digit(n, byte - b'0'));
+            }
+            (Short::Times(from, to, n), b'}') if n > 0 => return self.repeat(from, to, n),
+            (Short::Byte(n), b'0'..=b'9') => self.short = Short::Byte(with_digit(n, byte - b'0')),
+            (Short::Byte(n), b'>') if n < 256 => {
+                self.short = Short::Nothing;
+                return self.reader.take_byte(n as u8);
+            }
+            _ => return Err(CallError::NotUnderstood),
+        }
+        Ok(())
+    }
+}
+
+pub fn read_said(text: &str) -> Result<Said, CallError> {
+    let text = text.as_bytes();
+    let mut short = ShortForms {
+        text,
+        reader: Reader::new(),
+        short: Short::Nothing,
+    };
+    for (at, byte) in text.iter().enumerate() {
+        short.take(at, *byte)?;
+    }
+    match short.short {
+        Short::Nothing => short.reader.close(),
+        _ => Err(CallError::NotUnderstood),
+    }
 }

@@ -1,34 +1,39 @@
-use crate::calls::Calls;
+use crate::calls::{Calls, Says};
 use crate::error::CallError;
-use crate::parts::read_parts;
-use crate::short_forms::written_out;
+use crate::parts::parts_of;
+use crate::short_forms::read_said;
 use crate::tally::Tally;
+use crate::values::{NONE, Values};
 use std::alloc::Global;
+use std::fmt::Display;
 use std::io;
 
-// What a call answers, if it is not what is due.
-fn misfit<C: Calls>(
-    alloc: Global,
-    calls: &mut C,
-    call: &str,
-    due: &str,
-) -> Result<Option<String>, CallError> {
-    let call = read_parts(alloc, call)?;
-    let came = calls.carry_out(alloc, call.as_slice())?.to_string(alloc)?;
-    let right = read_parts(alloc, came.as_str())? == read_parts(alloc, due)?;
-    Ok(if right { None } else { Some(came) })
+fn answer<C: Calls>(alloc: Global, calls: &mut C, call: &str) -> Result<C::Answer, CallError> {
+    let said = read_said(call)?;
+    let call = parts_of(alloc, &said)?;
+    calls.carry_out(alloc, call.as_slice())
 }
 
-// The same for a call and an answer that may have short forms.
-fn misfit_in_short<C: Calls>(
-    alloc: Global,
-    calls: &mut C,
-    call: &str,
-    due: &str,
-) -> Result<Option<String>, CallError> {
-    let call = written_out(alloc, call)?;
-    let due = written_out(alloc, due)?;
-    misfit(alloc, calls, call.as_str(), due.as_str())
+// Whether a text says these words and values.
+fn is_said(text: &str, words: &str, values: &Values) -> bool {
+    match read_said(text) {
+        Ok(said) => words.as_bytes() == said.words() && values.same(&said.values),
+        Err(_) => false,
+    }
+}
+
+// Prints what came in place of what is due: its words, and the first of its values.
+fn print_wrong(
+    rt: &HostRuntime,
+    line: &str,
+    word: &str,
+    words: impl Display + Drop,
+    came: &Values,
+) -> io::Result<()> {
+    let numbers = came.numbers;
+    let codes = &came.codes[0..16];
+    let bytes = &came.bytes[0..16];
+    println!(rt; "{line}, {word}: {words} came, with {numbers:?}, {codes:?}, {bytes:?}")
 }
 
 fn try_line<C: Calls>(calls: &mut C, tally: &mut Tally<'_>, line: &str) -> io::Result<()> {
@@ -37,10 +42,17 @@ fn try_line<C: Calls>(calls: &mut C, tally: &mut Tally<'_>, line: &str) -> io::R
         return println!(rt; "{line}");
     }
     let (call, due) = line.split_once(" -> ").unwrap_or((line, ""));
-    match misfit_in_short(rt.alloc(), calls, call, due) {
-        Ok(None) => tally.tell(line, true),
-        Ok(Some(came)) => println!(rt; "{line}, {}: {came} came", tally.count(false)),
-        Err(error) => println!(rt; "{line}, {}: {error}", tally.count(false)),
+    let mut came = NONE;
+    match answer(rt.alloc(), calls, call) {
+        Ok(answer) => {
+            answer.put(&mut came);
+            let words = answer.words();
+            if is_said(due, words, &came) {
+                return tally.tell(line, true);
+            }
+            print_wrong(rt, line, tally.count(false), words, &came)
+        }
+        Err(error) => print_wrong(rt, line, tally.count(false), error, &came),
     }
 }
 

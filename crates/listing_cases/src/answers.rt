@@ -1,6 +1,5 @@
-use cases::{Codes, Text};
-use lists::{FileFault, Header, Listing, WriteFault};
-use std::fmt;
+use cases::{Says, Values, put};
+use lists::{FileFault, Listing, WriteFault};
 
 // What a call answered.
 #[derive(PartialEq, Eq, Debug, Drop)]
@@ -12,38 +11,51 @@ pub enum Answer {
     // The numbers of lines, and the lines, each with its end.
     Lines(Vec<u32>, Vec<u8>),
     // The list of a file, when it is written again, does not give the file.
-    WrittenOtherwise,
+    WrittenOtherwise(Listing, Vec<u32>),
 }
 
-impl fmt::Display for Answer {
-    fn fmt<W: fmt::Write>(&self, f: &mut fmt::Formatter<W>) -> fmt::Result {
+fn put_list(listing: &Listing, codes: &[u32], values: &mut Values) {
+    let header = &listing.header;
+    let count = put(&mut values.codes, codes);
+    let told = [
+        header.letter.byte() as usize,
+        header.size.rows(),
+        header.bound.degree(),
+        listing.count as usize,
+        count,
+    ];
+    put(&mut values.numbers, &told);
+}
+
+impl Says for Answer {
+    fn words(&self) -> &'static str {
         match self {
-            Self::List(listing, codes) => {
-                let Header {
-                    letter,
-                    size,
-                    bound,
-                } = listing.header;
-                let letter = letter.byte() as char;
-                let (size, bound) = (size.rows(), bound.degree());
-                let count = listing.count;
-                let codes = Codes(codes.as_slice());
-                write!(
-                    f,
-                    "ring {letter} size {size} bound {bound} count {count} codes {codes}"
-                )
+            Self::List(..) => "ring @ size # bound # count # codes []",
+            Self::RefusedFile(_) => "refused # line # field #",
+            Self::File(_) => "\"\"",
+            Self::RefusedList(_) => "refused #",
+            Self::Lines(..) => "numbers [] \"\"",
+            Self::WrittenOtherwise(..) => "written otherwise",
+        }
+    }
+
+    fn put(&self, values: &mut Values) {
+        match self {
+            Self::List(listing, codes) | Self::WrittenOtherwise(listing, codes) => {
+                put_list(listing, codes.as_slice(), values);
             }
             Self::RefusedFile(fault) => {
-                let (number, line, field) = (fault.number(), fault.line(), fault.field());
-                write!(f, "refused {number} line {line} field {field}")
+                let told = [fault.number(), fault.line(), fault.field()];
+                for (place, number) in values.numbers.iter_mut().zip(told) {
+                    *place = number as usize;
+                }
             }
-            Self::File(file) => write!(f, "{}", Text(file.as_slice())),
-            Self::RefusedList(fault) => write!(f, "refused {}", fault.number()),
+            Self::File(file) => values.numbers[0] = put(&mut values.bytes, file.as_slice()),
+            Self::RefusedList(fault) => values.numbers[0] = fault.number() as usize,
             Self::Lines(numbers, lines) => {
-                let (numbers, lines) = (Codes(numbers.as_slice()), Text(lines.as_slice()));
-                write!(f, "numbers {numbers} {lines}")
+                values.numbers[0] = put(&mut values.codes, numbers.as_slice());
+                values.numbers[1] = put(&mut values.bytes, lines.as_slice());
             }
-            Self::WrittenOtherwise => f.write_str("written otherwise"),
         }
     }
 }

@@ -1,6 +1,6 @@
 use crate::answers::Answer;
 use cases::Part::{self, Word};
-use cases::{CallError, Calls, written};
+use cases::{BYTES, CODES, CallError, Calls, written};
 use lists::{GREATEST_LENGTH, Header, LEAST_PLACE, Lines, Listing, RingLetter, read, write};
 use std::alloc::Global;
 
@@ -15,6 +15,14 @@ fn letter(part: &Part<'_>) -> Result<RingLetter, CallError> {
         Word("P") => Ok(RingLetter::P),
         Word("Y") => Ok(RingLetter::Y),
         Word("W") => Ok(RingLetter::W),
+        _ => Err(CallError::NotUnderstood),
+    }
+}
+
+// How long a place is to be, as a part says, if a case can hold what is written there.
+fn length(part: &Part<'_>, greatest: usize) -> Result<usize, CallError> {
+    match part.number()? {
+        length if length <= greatest => Ok(length),
         _ => Err(CallError::NotUnderstood),
     }
 }
@@ -58,7 +66,7 @@ fn written_again(
     if again == Answer::File(file.to_vec(alloc)?) {
         Ok(Answer::List(listing, codes))
     } else {
-        Ok(Answer::WrittenOtherwise)
+        Ok(Answer::WrittenOtherwise(listing, codes))
     }
 }
 
@@ -103,8 +111,8 @@ impl Calls for ListCalls {
     fn carry_out(&mut self, alloc: Global, call: &[Part<'_>]) -> Result<Answer, CallError> {
         match call {
             [Word("read"), file] => read_file(alloc, file.text()?, LEAST_PLACE),
-            [Word("read"), file, Word("place"), length] => {
-                read_file(alloc, file.text()?, length.number()?)
+            [Word("read"), file, Word("place"), room] => {
+                read_file(alloc, file.text()?, length(room, CODES)?)
             }
             [
                 Word("write"),
@@ -116,12 +124,13 @@ impl Calls for ListCalls {
                 Word("codes"),
                 codes,
                 Word("place"),
-                length,
+                room,
             ] => {
                 let letter = letter(ring)?;
                 let size = u32::try_from(size.number()?)?;
                 let bound = u32::try_from(bound.number()?)?;
-                write_list(alloc, letter, size, bound, codes.codes()?, length.number()?)
+                let room = length(room, BYTES)?;
+                write_list(alloc, letter, size, bound, codes.codes()?, room)
             }
             [Word("lines"), file] => file_lines(alloc, file.text()?),
             _ => Err(CallError::NotUnderstood),

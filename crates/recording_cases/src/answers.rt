@@ -1,7 +1,6 @@
-use cases::Codes;
-use recurrences::Refusal;
+use cases::{Says, Values, put};
+use recurrences::{Phase, Refusal};
 use runs::standing::Standing;
-use std::fmt;
 
 // What a call answered.
 #[derive(PartialEq, Eq, Debug, Drop)]
@@ -15,8 +14,8 @@ pub enum Answer {
     Stands(Standing),
     Codes(Vec<u32>),
     Refused(Refusal),
-    // A call that should leave the run as it was did not.
-    ChangedRun,
+    // A call that should leave the run as it was did not. If it was refused, then with this.
+    ChangedRun(Option<Refusal>),
 }
 
 impl From<Result<(), Refusal>> for Answer {
@@ -38,42 +37,60 @@ impl From<Result<Option<(usize, usize)>, Refusal>> for Answer {
     }
 }
 
-fn write_standing<W: fmt::Write>(f: &mut fmt::Formatter<W>, standing: &Standing) -> fmt::Result {
+fn words_of(phase: Phase) -> &'static str {
+    match phase {
+        Phase::Short =>
+            "short taken # total # greatest # least # generators # # # # auxiliaries # # # #",
+        Phase::Running =>
+            "running taken # total # greatest # least # generators # # # # auxiliaries # # # #",
+        Phase::Settled =>
+            "settled taken # total # greatest # least # generators # # # # auxiliaries # # # #",
+    }
+}
+
+fn put_standing(standing: &Standing, values: &mut Values) {
     let Standing {
-        phase,
         taken,
         total,
         greatest,
         least,
+        generator_degrees,
+        auxiliary_degrees,
         ..
     } = *standing;
-    write!(
-        f,
-        "{phase} taken {taken} total {total} greatest {greatest} least {least}"
-    )?;
-    f.write_str(" generators")?;
-    for degree in standing.generator_degrees {
-        write!(f, " {degree}")?;
-    }
-    f.write_str(" auxiliaries")?;
-    for degree in standing.auxiliary_degrees {
-        write!(f, " {degree}")?;
-    }
-    Ok(())
+    put(&mut values.numbers, &[taken, total, greatest, least]);
+    put(&mut values.numbers[4..], &generator_degrees);
+    put(&mut values.numbers[8..], &auxiliary_degrees);
 }
 
-impl fmt::Display for Answer {
-    fn fmt<W: fmt::Write>(&self, f: &mut fmt::Formatter<W>) -> fmt::Result {
+impl Says for Answer {
+    fn words(&self) -> &'static str {
         match self {
-            Self::Number(number) => write!(f, "{number}"),
-            Self::Absent => f.write_str("absent"),
-            Self::Fits => f.write_str("fits"),
-            Self::Fails(place, row) => write!(f, "place {place} row {row}"),
-            Self::Done => f.write_str("done"),
-            Self::Stands(standing) => write_standing(f, standing),
-            Self::Codes(codes) => write!(f, "{}", Codes(codes.as_slice())),
-            Self::Refused(refusal) => write!(f, "refused {}", refusal.number()),
-            Self::ChangedRun => f.write_str("changed the run"),
+            Self::Number(_) => "#",
+            Self::Absent => "absent",
+            Self::Fits => "fits",
+            Self::Fails(..) => "place # row #",
+            Self::Done => "done",
+            Self::Stands(standing) => words_of(standing.phase),
+            Self::Codes(_) => "[]",
+            Self::Refused(_) => "refused #",
+            Self::ChangedRun(_) => "changed the run",
+        }
+    }
+
+    fn put(&self, values: &mut Values) {
+        match self {
+            Self::Number(number) => values.numbers[0] = *number as usize,
+            Self::Fails(place, row) => {
+                values.numbers[0] = *place;
+                values.numbers[1] = *row;
+            }
+            Self::Stands(standing) => put_standing(standing, values),
+            Self::Codes(codes) => values.numbers[0] = put(&mut values.codes, codes.as_slice()),
+            Self::Refused(refusal) | Self::ChangedRun(Some(refusal)) => {
+                values.numbers[0] = refusal.number() as usize;
+            }
+            Self::Absent | Self::Fits | Self::Done | Self::ChangedRun(None) => {}
         }
     }
 }

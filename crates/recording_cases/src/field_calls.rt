@@ -2,7 +2,7 @@ use crate::answers::Answer;
 use crate::ring_calls::{code, ring_call};
 use crate::shown::look_at;
 use cases::Part::{self, Word};
-use cases::{CallError, written};
+use cases::{CODES, CallError, written};
 use recurrences::Refusal;
 use rings::{Field, Ring};
 use runs::run::Run;
@@ -17,6 +17,14 @@ fn offer<F: Field>(run: &mut Run<F>, times: usize, matrix: &[u32]) -> Result<(),
         run.offer(matrix)?;
     }
     Ok(())
+}
+
+// A place for so many codes as a part says, blank, if a case can hold as many.
+fn place(alloc: Global, length: &Part<'_>) -> Result<Vec<u32>, CallError> {
+    match length.number()? {
+        length if length <= CODES => Ok(vec![in alloc; BLANK; length]?),
+        _ => Err(CallError::NotUnderstood),
+    }
 }
 
 // What a call wrote into the place that was lent to it.
@@ -51,11 +59,11 @@ fn call_on<F: Field>(
         },
         [Word("standing"), _] => Ok(Answer::Stands(run.standing())),
         [Word("column"), _, number, Word("place"), length] => {
-            let mut place = vec![in alloc; BLANK; length.number()?]?;
+            let mut place = place(alloc, length)?;
             placed(run.column(number.number()?, &mut place), place)
         }
         [Word("continuation"), _, count, Word("place"), length] => {
-            let mut place = vec![in alloc; BLANK; length.number()?]?;
+            let mut place = place(alloc, length)?;
             placed(run.continuation(count.number()?, &mut place), place)
         }
         [Word("inverse"), _, a] => Ok(match field.inverse(code(a)?) {
@@ -76,8 +84,10 @@ pub fn field_call<F: Field>(
     let before = look_at(run);
     let answer = call_on(alloc, field, run, call)?;
     if answer == Answer::Done || before == look_at(run) {
-        Ok(answer)
-    } else {
-        Ok(Answer::ChangedRun)
+        return Ok(answer);
     }
+    Ok(Answer::ChangedRun(match answer {
+        Answer::Refused(refusal) => Some(refusal),
+        _ => None,
+    }))
 }
