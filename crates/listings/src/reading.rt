@@ -4,17 +4,27 @@ use cases::{Tally, holds};
 use lists::{FileFault, Found, Listing, read, write};
 use std::io;
 
-// A file, and what is due for it: what it says of its list and the codes of that, or the fault that it is refused with.
+// The list that a file holds. Its ring's letter is told apart by the byte too.
+#[derive(Clone, Copy)]
+struct Held<'a> {
+    letter: char,
+    header: Said,
+    count: u32,
+    codes: &'a [u32],
+}
+
+// A file, and what is due for it: its list, or the fault that it is refused with, and its number.
 #[derive(Clone, Copy)]
 pub struct File<'a> {
     what: &'a str,
     bytes: &'a [u8],
-    due: Result<(Said, u32, &'a [u32]), FileFault>,
+    due: Result<Held<'a>, (u32, FileFault)>,
 }
 
 pub fn good<'a>(
     what: &'a str,
     bytes: &'a [u8],
+    letter: char,
     header: Said,
     count: u32,
     codes: &'a [u32],
@@ -22,15 +32,25 @@ pub fn good<'a>(
     File {
         what,
         bytes,
-        due: Ok((header, count, codes)),
+        due: Ok(Held {
+            letter,
+            header,
+            count,
+            codes,
+        }),
     }
 }
 
-pub fn damaged<'a, E: Into<FileFault>>(what: &'a str, bytes: &'a [u8], fault: E) -> File<'a> {
+pub fn damaged<'a, E: Into<FileFault>>(
+    what: &'a str,
+    bytes: &'a [u8],
+    number: u32,
+    fault: E,
+) -> File<'a> {
     File {
         what,
         bytes,
-        due: Err(fault.into()),
+        due: Err((number, fault.into())),
     }
 }
 
@@ -47,23 +67,38 @@ fn written_as(bytes: &[u8], header: Said, codes: &[u32]) -> bool {
 }
 
 impl File<'_> {
-    // Reads it into a place for so many codes, and writes a list that it holds again.
-    pub fn try_out(&self, tally: &mut Tally<'_>, room: usize) -> io::Result<()> {
+    fn holds_list(&self, listing: &Listing, place: &[u32]) -> bool {
+        let Ok(due) = self.due else {
+            return false;
+        };
+        let header = Said::from(listing.header);
+        header == due.header
+            && header.letter.byte() as char == due.letter
+            && listing.count == due.count
+            && holds(place, due.codes, UNTOUCHED_CODE)
+            && written_as(self.bytes, header, due.codes)
+    }
+
+    fn is_refused_with(&self, fault: FileFault) -> bool {
+        match self.due {
+            Err((number, due)) => fault.number() == number && fault == due,
+            Ok(_) => false,
+        }
+    }
+
+    // Reads it into a place, and writes a list that it holds again.
+    pub fn try_out(&self, tally: &mut Tally<'_>, place: &mut [u32]) -> io::Result<()> {
         let what = self.what;
-        let mut place = vec![in tally.rt().alloc(); UNTOUCHED_CODE; room]?;
-        let answer = read(self.bytes, &mut place).map(|Listing { header, count }| (
-            Said::from(header),
-            count,
-        ));
-        let codes = self.due.map_or([].as_slice(), |(_, _, codes)| codes);
-        let told = answer == self.due.map(|(header, count, _)| (header, count));
-        let right = told && holds(&place, codes, UNTOUCHED_CODE);
-        match answer {
-            Ok((header, count)) => {
-                let letter = header.letter.byte() as char;
-                let size = header.size;
-                let bound = header.bound;
-                let right = right && written_as(self.bytes, header, codes);
+        match read(self.bytes, place) {
+            Ok(listing) => {
+                let right = self.holds_list(&listing, place);
+                let Said {
+                    letter,
+                    size,
+                    bound,
+                } = listing.header.into();
+                let letter = letter.byte() as char;
+                let count = listing.count;
                 tally.tell(
                     format_args!(
                         "{what}: ring {letter}, size {size}, bound {bound}, {count} matrices"
@@ -72,6 +107,7 @@ impl File<'_> {
                 )
             }
             Err(fault) => {
+                let right = self.is_refused_with(fault) && holds(place, &[], UNTOUCHED_CODE);
                 let number = fault.number();
                 let line = fault.line();
                 let field = fault.field();
@@ -87,7 +123,7 @@ impl File<'_> {
 // Reads each file into a place that is long enough.
 pub fn try_all(tally: &mut Tally<'_>, files: &[File<'_>]) -> io::Result<()> {
     for file in files {
-        file.try_out(tally, 16384)?;
+        file.try_out(tally, &mut [UNTOUCHED_CODE; 16384])?;
     }
     Ok(())
 }

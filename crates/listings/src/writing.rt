@@ -7,17 +7,18 @@ use lists::{WriteFault, write};
 use recurrences::Refusal::{Bound, Code, Length, Size};
 use std::io;
 
-// A list, and what is due for it: the text that it is written as, or the fault that it is refused with.
+// A list, and what is due for it: the text that it is written as, or the fault that it is refused with, and its number.
 #[derive(Clone, Copy)]
 pub struct List<'a> {
     what: &'a str,
     header: Said,
     codes: &'a [u32],
-    due: Result<&'a [u8], WriteFault>,
+    due: Result<&'a [u8], (u32, WriteFault)>,
 }
 
 pub fn unwritten<'a, E: Into<WriteFault>>(
     what: &'a str,
+    number: u32,
     header: Said,
     codes: &'a [u32],
     fault: E,
@@ -26,29 +27,32 @@ pub fn unwritten<'a, E: Into<WriteFault>>(
         what,
         header,
         codes,
-        due: Err(fault.into()),
+        due: Err((number, fault.into())),
     }
 }
 
 impl List<'_> {
-    // Writes it into a place for so many bytes.
-    pub fn try_out(&self, tally: &mut Tally<'_>, room: usize) -> io::Result<()> {
+    // Writes it into a place.
+    pub fn try_out(&self, tally: &mut Tally<'_>, place: &mut [u8]) -> io::Result<()> {
         let what = self.what;
-        let header = self.header;
-        let mut place = vec![in tally.rt().alloc(); UNTOUCHED_BYTE; room]?;
-        let answer = write(
-            header.letter,
-            header.size,
-            header.bound,
-            self.codes,
-            &mut place,
-        );
-        let told = answer == self.due.map(|text| text.len());
-        let held = holds(&place, self.due.unwrap_or(b""), UNTOUCHED_BYTE);
-        let right = told && held;
-        match answer {
-            Ok(n) => tally.tell(format_args!("writing {what}: {n} bytes"), right),
-            Err(fault) => tally.tell(format_args!("writing {what}: {}", fault.number()), right),
+        let Said {
+            letter,
+            size,
+            bound,
+        } = self.header;
+        match write(letter, size, bound, self.codes, place) {
+            Ok(n) => {
+                let right = match self.due {
+                    Ok(text) => n == text.len() && holds(place, text, UNTOUCHED_BYTE),
+                    Err(_) => false,
+                };
+                tally.tell(format_args!("writing {what}: {n} bytes"), right)
+            }
+            Err(fault) => {
+                let number = fault.number();
+                let right = self.due == Err((number, fault)) && holds(place, b"", UNTOUCHED_BYTE);
+                tally.tell(format_args!("writing {what}: {number}"), right)
+            }
         }
     }
 }
@@ -56,29 +60,43 @@ impl List<'_> {
 // Lists that are refused.
 pub fn lists_refused(tally: &mut Tally<'_>) -> io::Result<()> {
     let cases = [
-        unwritten("the size 0", header(B, 0, 0), &[], Size),
-        unwritten("the size 5", header(B, 5, 0), &[], Size),
-        unwritten("the size 4294967295", header(B, 4294967295, 0), &[], Size),
-        unwritten("the bound 65", header(P, 1, 65), &[], Bound),
-        unwritten("the bound 4294967295", header(P, 1, 4294967295), &[], Bound),
+        unwritten("the size 0", 1, header(B, 0, 0), &[], Size),
+        unwritten("the size 5", 1, header(B, 5, 0), &[], Size),
+        unwritten(
+            "the size 4294967295",
+            1,
+            header(B, 4294967295, 0),
+            &[],
+            Size,
+        ),
+        unwritten("the bound 65", 2, header(P, 1, 65), &[], Bound),
+        unwritten(
+            "the bound 4294967295",
+            2,
+            header(P, 1, 4294967295),
+            &[],
+            Bound,
+        ),
         unwritten(
             "three codes of a matrix of four",
+            4,
             header(B, 2, 0),
             &[0, 1, 1],
             Length,
         ),
         unwritten(
             "one code behind a matrix of four",
+            4,
             header(B, 2, 0),
             &[0, 1, 1, 0, 1],
             Length,
         ),
-        unwritten("the bit 2", header(B, 1, 0), &[0, 2], Code),
-        unwritten("the code 101 modulo 101", header(P, 1, 0), &[101], Code),
-        unwritten("the byte 256", header(Y, 1, 0), &[256], Code),
+        unwritten("the bit 2", 5, header(B, 1, 0), &[0, 2], Code),
+        unwritten("the code 101 modulo 101", 5, header(P, 1, 0), &[101], Code),
+        unwritten("the byte 256", 5, header(Y, 1, 0), &[256], Code),
     ];
     for list in &cases {
-        list.try_out(tally, 64)?;
+        list.try_out(tally, &mut [UNTOUCHED_BYTE; 64])?;
     }
     Ok(())
 }
@@ -88,40 +106,47 @@ pub fn orders(tally: &mut Tally<'_>) -> io::Result<()> {
     let cases = [
         unwritten(
             "a wrong size before a wrong bound",
+            1,
             header(B, 5, 65),
             &[2],
             Size,
         ),
         unwritten(
             "a wrong bound before a wrong length",
+            2,
             header(B, 2, 65),
             &[2],
             Bound,
         ),
         unwritten(
             "a wrong length before a wrong code",
+            4,
             header(B, 2, 0),
             &[2],
             Length,
         ),
     ];
     for list in &cases {
-        list.try_out(tally, 64)?;
+        list.try_out(tally, &mut [UNTOUCHED_BYTE; 64])?;
     }
     unwritten(
         "a wrong code before a short place",
+        5,
         header(B, 1, 0),
         &[2],
         Code,
     )
-    .try_out(tally, 4)
+    .try_out(tally, &mut [UNTOUCHED_BYTE; 4])
 }
 
 // Places on both sides of a text of 12 bytes.
 pub fn places(tally: &mut Tally<'_>) -> io::Result<()> {
-    unwritten("12 bytes into 11", header(B, 1, 0), &[], Place).try_out(tally, 11)?;
-    empty("12 bytes into 12").try_out(tally, 12)?;
-    empty("12 bytes into 20").try_out(tally, 20)
+    unwritten("12 bytes into 11", 11, header(B, 1, 0), &[], Place).try_out(
+        tally,
+        &mut [UNTOUCHED_BYTE; 11],
+    )?;
+    empty("12 bytes into 12").try_out(tally, &mut [UNTOUCHED_BYTE; 12])?;
+    empty("12 bytes into 20").try_out(tally, &mut [UNTOUCHED_BYTE; 20])
 }
 
 // The list of no matrix, whose text has 12 bytes.
