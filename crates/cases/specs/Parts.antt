@@ -10,9 +10,9 @@ number_in (Number n) = Ok n
 number_in _ = Err NotUnderstood
 
 abbrev pub codes_in : Part → Result (List ℕ) CallError
-codes_in (Codes v) = Ok v.items
+codes_in (Codes codes) = Ok codes.now
 codes_in _ = Err NotUnderstood
 
 abbrev pub text_in : Part → Result (List ℕ) CallError
-text_in (Text v) = Ok v.items
+text_in (Text text) = Ok text.now
 text_in _ = Err NotUnderstood

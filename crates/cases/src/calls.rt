@@ -1,14 +1,13 @@
 use crate::error::CallError;
 use crate::parts::Part;
 use crate::values::Values;
-use std::alloc::Global;
 
 // What a call answers.
 pub trait Says {
     // Its words, with a sign in the place of each value.
     fn words(&self) -> &'static str;
 
-    // Puts its values.
+    // Puts its numbers.
     fn put(&self, values: &mut Values);
 }
 
@@ -16,5 +15,10 @@ pub trait Says {
 pub trait Calls {
     type Answer: Says + Drop;
 
-    fn carry_out(&mut self, alloc: Global, call: &[Part<'_>]) -> Result<Self::Answer, CallError>;
+    // Carries out a call. A place is lent out of the codes or the bytes of what came.
+    fn carry_out(
+        &mut self,
+        call: &[Part<'_>],
+        came: &mut Values,
+    ) -> Result<Self::Answer, CallError>;
 }

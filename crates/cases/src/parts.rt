@@ -8,12 +8,12 @@ use std::alloc::Global;
 use std::str;
 
 // A part of a call. One space stands between two parts.
-#[derive(PartialEq, Eq, Debug, Drop)]
+#[derive(Clone, Copy, PartialEq, Eq, Debug)]
 pub enum Part<'a> {
     Word(&'a str),
     Number(usize),
-    Codes(Vec<u32>),
-    Text(Vec<u8>),
+    Codes(&'a [u32]),
+    Text(&'a [u8]),
 }
 
 impl Part<'_> {
@@ -30,7 +30,7 @@ impl Part<'_> {
         ensures { elim result [ Ok codes ↦ codes_in self.now ≡ Ok codes.now | Err e ↦ codes_in self.now ≡ Err e ] }
     {
         match self {
-            Part::Codes(codes) => Ok(codes.as_slice()),
+            Part::Codes(codes) => Ok(codes),
             _ => Err(CallError::NotUnderstood),
         }
     }
@@ -39,7 +39,7 @@ impl Part<'_> {
         ensures { elim result [ Ok text ↦ text_in self.now ≡ Ok text.now | Err e ↦ text_in self.now ≡ Err e ] }
     {
         match self {
-            Part::Text(text) => Ok(text.as_slice()),
+            Part::Text(text) => Ok(text),
             _ => Err(CallError::NotUnderstood),
         }
     }
@@ -76,19 +76,13 @@ fn sign_of(word: &str) -> Option<Sign> {
 }
 
 // The value that is due at a sign, which has this number. Its codes begin where those before end.
-fn value<'a>(
-    alloc: Global,
-    values: &Values,
-    sign: Sign,
-    number: usize,
-    listed: usize,
-) -> Result<Part<'a>, CallError> {
-    Ok(match sign {
+fn value(values: &Values, sign: Sign, number: usize, listed: usize) -> Part<'_> {
+    match sign {
         Sign::Number => Part::Number(number),
         Sign::Letter => Part::Word(ring(number)),
-        Sign::Codes => Part::Codes(values.list(listed, number).to_vec(alloc)?),
-        Sign::Text => Part::Text(values.text(number).to_vec(alloc)?),
-    })
+        Sign::Codes => Part::Codes(values.list(listed, number)),
+        Sign::Text => Part::Text(values.text(number)),
+    }
 }
 
 // What is said, in parts. The numbers go to the signs in their order; a sign that was itself written takes the next one too.
@@ -100,7 +94,7 @@ pub(crate) fn parts_of(alloc: Global, said: &Said) -> Result<Vec<Part<'_>>, Call
     for word in words.split(' ') {
         if let Some(sign) = sign_of(word) {
             let number = numbers.next().unwrap_or(0);
-            parts.push(value(alloc, &said.values, sign, number, listed)?)?;
+            parts.push(value(&said.values, sign, number, listed))?;
             if sign == Sign::Codes {
                 listed = number;
             }

@@ -14,7 +14,7 @@ enum Within {
 // What was read of a call or an answer.
 #[derive(Clone, Copy)]
 pub struct Reader {
-    said: Said,
+    pub said: Said,
     // How many numbers, codes and bytes were put.
     numbers: usize,
     codes: usize,
@@ -69,7 +69,7 @@ impl Reader {
         self.sign(sign)
     }
 
-    fn end_number(&mut self) -> Result<(), CallError> {
+    pub fn end_number(&mut self) -> Result<(), CallError> {
         match self.number {
             Some(number) => {
                 self.number = None;
@@ -148,11 +148,5 @@ impl Reader {
             (Within::Words, _) => return self.in_words(byte),
         }
         Ok(())
-    }
-
-    // All that was read, at the end of it.
-    pub fn close(&mut self) -> Result<Said, CallError> {
-        self.end_number()?;
-        Ok(self.said)
     }
 }

@@ -1,6 +1,6 @@
 use crate::error::CallError;
 use crate::reader::Reader;
-use crate::said::Said;
+use crate::said::{ROOM, Said};
 
 // Where a reading of short forms stands.
 #[derive(Clone, Copy)]
@@ -22,7 +22,7 @@ struct ShortForms<'a> {
     short: Short,
 }
 
-// The N that another digit makes. One of seven digits or more is no N of a byte, and repeats nothing that could be read.
+// The N that another digit makes. From 100,000 on, further digits are passed over.
 fn with_digit(n: usize, digit: u8) -> usize {
     if n < 100000 {
         n * 10 + digit as usize
@@ -66,20 +66,26 @@ impl ShortForms<'_> {
         }
         Ok(())
     }
+
+    fn read(&mut self) -> Result<(), CallError> {
+        for (at, byte) in self.text.iter().enumerate() {
+            self.take(at, *byte)?;
+        }
+        match self.short {
+            Short::Nothing => self.reader.end_number(),
+            _ => Err(CallError::NotUnderstood),
+        }
+    }
 }
 
-pub fn read_said(text: &str) -> Result<Said, CallError> {
-    let text = text.as_bytes();
+pub fn read_said(text: &str) -> Said {
     let mut short = ShortForms {
-        text,
+        text: text.as_bytes(),
         reader: Reader::new(),
         short: Short::Nothing,
     };
-    for (at, byte) in text.iter().enumerate() {
-        short.take(at, *byte)?;
+    if short.read().is_err() {
+        short.reader.said.length = ROOM;
     }
-    match short.short {
-        Short::Nothing => short.reader.close(),
-        _ => Err(CallError::NotUnderstood),
-    }
+    short.reader.said
 }

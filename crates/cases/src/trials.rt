@@ -1,6 +1,7 @@
 use crate::calls::{Calls, Says};
 use crate::error::CallError;
 use crate::parts::parts_of;
+use crate::said::Said;
 use crate::short_forms::read_said;
 use crate::tally::Tally;
 use crate::values::{NONE, Values};
@@ -8,18 +9,14 @@ use std::alloc::Global;
 use std::fmt::Display;
 use std::io;
 
-fn answer<C: Calls>(alloc: Global, calls: &mut C, call: &str) -> Result<C::Answer, CallError> {
-    let said = read_said(call)?;
-    let call = parts_of(alloc, &said)?;
-    calls.carry_out(alloc, call.as_slice())
-}
-
-// Whether a text says these words and values.
-fn is_said(text: &str, words: &str, values: &Values) -> bool {
-    match read_said(text) {
-        Ok(said) => words.as_bytes() == said.words() && values.same(&said.values),
-        Err(_) => false,
-    }
+fn answer<C: Calls>(
+    alloc: Global,
+    calls: &mut C,
+    call: &Said,
+    came: &mut Values,
+) -> Result<C::Answer, CallError> {
+    let call = parts_of(alloc, call)?;
+    calls.carry_out(call.as_slice(), came)
 }
 
 // Prints what came in place of what is due: its words, and the first of its values.
@@ -42,12 +39,13 @@ fn try_line<C: Calls>(calls: &mut C, tally: &mut Tally<'_>, line: &str) -> io::R
         return println!(rt; "{line}");
     }
     let (call, due) = line.split_once(" -> ").unwrap_or((line, ""));
+    let due = read_said(due);
     let mut came = NONE;
-    match answer(rt.alloc(), calls, call) {
+    match answer(rt.alloc(), calls, &read_said(call), &mut came) {
         Ok(answer) => {
             answer.put(&mut came);
             let words = answer.words();
-            if is_said(due, words, &came) {
+            if words.as_bytes() == due.words() && came.same(&due.values) {
                 return tally.tell(line, true);
             }
             print_wrong(rt, line, tally.count(false), words, &came)

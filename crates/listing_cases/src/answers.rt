@@ -2,27 +2,32 @@ use cases::{Says, Values, put};
 use lists::{FileFault, Listing, WriteFault};
 
 // What a call answered.
-#[derive(PartialEq, Eq, Debug, Drop)]
+#[derive(Clone, Copy, PartialEq, Eq, Debug)]
 pub enum Answer {
-    List(Listing, Vec<u32>),
+    // A list, whose codes stand at the front of what came.
+    List(Listing),
     RefusedFile(FileFault),
-    File(Vec<u8>),
+    // A file of so many bytes, which stand at the front of what came.
+    File(usize),
     RefusedList(WriteFault),
-    // The numbers of lines, and the lines, each with its end.
-    Lines(Vec<u32>, Vec<u8>),
+    // So many numbers of lines, and so many bytes of the lines, each with its end.
+    Lines(usize, usize),
     // The list of a file, when it is written again, does not give the file.
-    WrittenOtherwise(Listing, Vec<u32>),
+    WrittenOtherwise(Listing),
 }
 
-fn put_list(listing: &Listing, codes: &[u32], values: &mut Values) {
+pub fn code_count(listing: &Listing) -> usize {
+    listing.header.size.cells() * listing.count as usize
+}
+
+fn put_list(listing: &Listing, values: &mut Values) {
     let header = &listing.header;
-    let count = put(&mut values.codes, codes);
     let told = [
         header.letter.byte() as usize,
         header.size.rows(),
         header.bound.degree(),
         listing.count as usize,
-        count,
+        code_count(listing),
     ];
     put(&mut values.numbers, &told);
 }
@@ -41,20 +46,18 @@ impl Says for Answer {
 
     fn put(&self, values: &mut Values) {
         match self {
-            Self::List(listing, codes) | Self::WrittenOtherwise(listing, codes) => {
-                put_list(listing, codes.as_slice(), values);
-            }
+            Self::List(listing) | Self::WrittenOtherwise(listing) => put_list(listing, values),
             Self::RefusedFile(fault) => {
                 let told = [fault.number(), fault.line(), fault.field()];
                 for (place, number) in values.numbers.iter_mut().zip(told) {
                     *place = number as usize;
                 }
             }
-            Self::File(file) => values.numbers[0] = put(&mut values.bytes, file.as_slice()),
+            Self::File(length) => values.numbers[0] = *length,
             Self::RefusedList(fault) => values.numbers[0] = fault.number() as usize,
             Self::Lines(numbers, lines) => {
-                values.numbers[0] = put(&mut values.codes, numbers.as_slice());
-                values.numbers[1] = put(&mut values.bytes, lines.as_slice());
+                values.numbers[0] = *numbers;
+                values.numbers[1] = *lines;
             }
         }
     }

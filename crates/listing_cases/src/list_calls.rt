@@ -1,13 +1,9 @@
-use crate::answers::Answer;
+ghost use Rattle.std.specs.Prelude.{◌≤◌, IfOk};
+
+use crate::answers::{Answer, code_count};
 use cases::Part::{self, Word};
-use cases::{BYTES, CODES, CallError, Calls, written};
-use lists::{GREATEST_LENGTH, Header, LEAST_PLACE, Lines, Listing, RingLetter, read, write};
-use std::alloc::Global;
-
-// What a code and a byte of a place are before a call writes them.
-const BLANK_CODE: u32 = 4294967295;
-
-const BLANK_BYTE: u8 = 7;
+use cases::{BYTES, CODES, CallError, Calls, NONE, Values, put};
+use lists::{Header, LEAST_PLACE, Lines, Listing, RingLetter, read, write};
 
 fn letter(part: &Part<'_>) -> Result<RingLetter, CallError> {
     match part {
@@ -20,84 +16,81 @@ fn letter(part: &Part<'_>) -> Result<RingLetter, CallError> {
 }
 
 // How long a place is to be, as a part says, if a case can hold what is written there.
-fn length(part: &Part<'_>, greatest: usize) -> Result<usize, CallError> {
+fn room(part: &Part<'_>, greatest: usize) -> Result<usize, CallError>
+    ensures { IfOk result (λ n. n ≤ greatest) }
+{
     match part.number()? {
         length if length <= greatest => Ok(length),
         _ => Err(CallError::NotUnderstood),
     }
 }
 
-// Writes a list into a place of so many bytes.
 fn write_list(
-    alloc: Global,
     letter: RingLetter,
     size: u32,
     bound: u32,
     codes: &[u32],
-    length: usize,
-) -> Result<Answer, CallError> {
-    let mut place = vec![in alloc; BLANK_BYTE; length]?;
-    match write(letter, size, bound, codes, &mut place) {
-        Ok(length) => Ok(Answer::File(written(place, length, BLANK_BYTE)?)),
-        Err(fault) => {
-            written(place, 0, BLANK_BYTE)?;
-            Ok(Answer::RefusedList(fault))
-        }
+    place: &mut [u8],
+) -> Answer {
+    match write(letter, size, bound, codes, place) {
+        Ok(length) => Answer::File(length),
+        Err(fault) => Answer::RefusedList(fault),
     }
 }
 
-fn write_again(alloc: Global, header: &Header, codes: &[u32]) -> Result<Answer, CallError> {
+// Whether a list is written as this file.
+fn is_written_as(header: &Header, codes: &[u32], file: &[u8]) -> bool {
     let (size, bound) = (header.size.rows() as u32, header.bound.degree() as u32);
-    write_list(alloc, header.letter, size, bound, codes, GREATEST_LENGTH)
+    let mut due = NONE.bytes;
+    put(&mut due, file);
+    let mut again = NONE.bytes;
+    write(header.letter, size, bound, codes, &mut again) == Ok(file.len()) && again == due
 }
 
-fn code_count(listing: &Listing) -> usize {
-    listing.header.size.cells() * listing.count as usize
-}
-
-// The codes of a list that was read. It is written again, which should give its file.
-fn written_again(
-    alloc: Global,
-    listing: Listing,
-    codes: Vec<u32>,
-    file: &[u8],
-) -> Result<Answer, CallError> {
-    let again = write_again(alloc, &listing.header, codes.as_slice())?;
-    if again == Answer::File(file.to_vec(alloc)?) {
-        Ok(Answer::List(listing, codes))
+// What the list of a file is answered with. It is written again, which should give the file.
+fn listed(listing: Listing, file: &[u8], came: &Values) -> Answer {
+    let codes = came.list(0, code_count(&listing));
+    if is_written_as(&listing.header, codes, file) {
+        Answer::List(listing)
     } else {
-        Ok(Answer::WrittenOtherwise(listing, codes))
+        Answer::WrittenOtherwise(listing)
     }
 }
 
 // Reads a file into a place of so many codes.
-fn read_file(alloc: Global, file: &[u8], length: usize) -> Result<Answer, CallError> {
-    let mut place = vec![in alloc; BLANK_CODE; length]?;
-    match read(file, &mut place) {
-        Ok(listing) => {
-            let codes = written(place, code_count(&listing), BLANK_CODE)?;
-            written_again(alloc, listing, codes, file)
-        }
-        Err(fault) => {
-            written(place, 0, BLANK_CODE)?;
-            Ok(Answer::RefusedFile(fault))
-        }
+fn read_file(file: &[u8], length: usize, came: &mut Values) -> Answer
+    requires { length ≤ 16400 }
+{
+    match read(file, &mut came.codes[..length]) {
+        Ok(listing) => listed(listing, file, came),
+        Err(fault) => Answer::RefusedFile(fault),
     }
 }
 
-// The lines of a file and their numbers. Behind the last there is none, however often it is asked for.
-fn file_lines(alloc: Global, file: &[u8]) -> Result<Answer, CallError> {
+// The lines of a file and their numbers, as far as there is room. Behind the last there is none, however often it is asked for.
+fn file_lines(file: &[u8], came: &mut Values) -> Answer {
     let mut lines = Lines::new(file);
-    let mut numbers = Vec::new(alloc);
-    let mut bytes = Vec::new(alloc);
-    for _ in 0..GREATEST_LENGTH {
+    let mut count = 0;
+    let mut end = 0;
+    for _ in 0..BYTES {
         if let Some(line) = lines.next_line() {
-            numbers.push(line.number)?;
-            bytes.extend_from_slice(line.bytes)?;
-            bytes.push(b'\n')?;
+            if count < CODES {
+                came.codes[count] = line.number;
+                count += 1;
+            }
+            for byte in line.bytes {
+                if end < BYTES {
+                    came.bytes[end] = *byte;
+                    end += 1;
+                }
+            }
+            if end < BYTES {
+                came.bytes[end] = b'\n';
+                end += 1;
+            }
         }
     }
-    Ok(Answer::Lines(numbers, bytes))
+    Answer::Lines(count, end)
 }
 
 // The calls on list files.
@@ -108,11 +101,12 @@ impl Calls for ListCalls {
     type Answer = Answer;
 
     // A file is read into the least place where no other is said.
-    fn carry_out(&mut self, alloc: Global, call: &[Part<'_>]) -> Result<Answer, CallError> {
+    fn carry_out(&mut self, call: &[Part<'_>], came: &mut Values) -> Result<Answer, CallError> {
         match call {
-            [Word("read"), file] => read_file(alloc, file.text()?, LEAST_PLACE),
-            [Word("read"), file, Word("place"), room] => {
-                read_file(alloc, file.text()?, length(room, CODES)?)
+            [Word("read"), file] => Ok(read_file(file.text()?, LEAST_PLACE, came)),
+            [Word("read"), file, Word("place"), length] => {
+                let length = room(length, CODES)?;
+                Ok(read_file(file.text()?, length, came))
             }
             [
                 Word("write"),
@@ -124,15 +118,16 @@ impl Calls for ListCalls {
                 Word("codes"),
                 codes,
                 Word("place"),
-                room,
+                length,
             ] => {
                 let letter = letter(ring)?;
                 let size = u32::try_from(size.number()?)?;
                 let bound = u32::try_from(bound.number()?)?;
-                let room = length(room, BYTES)?;
-                write_list(alloc, letter, size, bound, codes.codes()?, room)
+                let length = room(length, BYTES)?;
+                let place = &mut came.bytes[..length];
+                Ok(write_list(letter, size, bound, codes.codes()?, place))
             }
-            [Word("lines"), file] => file_lines(alloc, file.text()?),
+            [Word("lines"), file] => Ok(file_lines(file.text()?, came)),
             _ => Err(CallError::NotUnderstood),
         }
     }

@@ -3,7 +3,7 @@ use recurrences::{Phase, Refusal};
 use runs::standing::Standing;
 
 // What a call answered.
-#[derive(PartialEq, Eq, Debug, Drop)]
+#[derive(Clone, Copy, PartialEq, Eq, Debug)]
 pub enum Answer {
     Number(u32),
     Absent,
@@ -12,7 +12,8 @@ pub enum Answer {
     Fails(usize, usize),
     Done,
     Stands(Standing),
-    Codes(Vec<u32>),
+    // So many codes, which stand at the front of what came.
+    Codes(usize),
     Refused(Refusal),
     // A call that should leave the run as it was did not. If it was refused, then with this.
     ChangedRun(Option<Refusal>),
@@ -86,7 +87,7 @@ impl Says for Answer {
                 values.numbers[1] = *row;
             }
             Self::Stands(standing) => put_standing(standing, values),
-            Self::Codes(codes) => values.numbers[0] = put(&mut values.codes, codes.as_slice()),
+            Self::Codes(length) => values.numbers[0] = *length,
             Self::Refused(refusal) | Self::ChangedRun(Some(refusal)) => {
                 values.numbers[0] = refusal.number() as usize;
             }

@@ -1,15 +1,13 @@
+ghost use Rattle.std.specs.Prelude.{◌≤◌, IfOk};
+
 use crate::answers::Answer;
 use crate::ring_calls::{code, ring_call};
 use crate::shown::look_at;
 use cases::Part::{self, Word};
-use cases::{CODES, CallError, written};
+use cases::{CODES, CallError, Values};
 use recurrences::Refusal;
 use rings::{Field, Ring};
 use runs::run::Run;
-use std::alloc::Global;
-
-// What a code of a place is before a call writes it.
-const BLANK: u32 = 4294967295;
 
 // Offers the same matrix so often, up to the first refusal.
 fn offer<F: Field>(run: &mut Run<F>, times: usize, matrix: &[u32]) -> Result<(), Refusal> {
@@ -19,30 +17,29 @@ fn offer<F: Field>(run: &mut Run<F>, times: usize, matrix: &[u32]) -> Result<(),
     Ok(())
 }
 
-// A place for so many codes as a part says, blank, if a case can hold as many.
-fn place(alloc: Global, length: &Part<'_>) -> Result<Vec<u32>, CallError> {
-    match length.number()? {
-        length if length <= CODES => Ok(vec![in alloc; BLANK; length]?),
+// How long a place is to be, as a part says, if a case can hold what is written there.
+fn room(part: &Part<'_>) -> Result<usize, CallError>
+    ensures { IfOk result (λ n. n ≤ 16400) }
+{
+    match part.number()? {
+        length if length <= CODES => Ok(length),
         _ => Err(CallError::NotUnderstood),
     }
 }
 
-// What a call wrote into the place that was lent to it.
-fn placed(answer: Result<(), Refusal>, place: Vec<u32>) -> Result<Answer, CallError> {
+// What a call answered that had a place to write to.
+fn placed(answer: Result<(), Refusal>, length: usize) -> Answer {
     match answer {
-        Ok(()) => Ok(Answer::Codes(place)),
-        Err(refusal) => {
-            written(place, 0, BLANK)?;
-            Ok(Answer::Refused(refusal))
-        }
+        Ok(()) => Answer::Codes(length),
+        Err(refusal) => Answer::Refused(refusal),
     }
 }
 
 fn call_on<F: Field>(
-    alloc: Global,
     field: F,
     run: &mut Run<F>,
     call: &[Part<'_>],
+    came: &mut Values,
 ) -> Result<Answer, CallError> {
     match call {
         [Word("run"), _] => {
@@ -59,12 +56,14 @@ fn call_on<F: Field>(
         },
         [Word("standing"), _] => Ok(Answer::Stands(run.standing())),
         [Word("column"), _, number, Word("place"), length] => {
-            let mut place = place(alloc, length)?;
-            placed(run.column(number.number()?, &mut place), place)
+            let length = room(length)?;
+            let answer = run.column(number.number()?, &mut came.codes[..length]);
+            Ok(placed(answer, length))
         }
         [Word("continuation"), _, count, Word("place"), length] => {
-            let mut place = place(alloc, length)?;
-            placed(run.continuation(count.number()?, &mut place), place)
+            let length = room(length)?;
+            let answer = run.continuation(count.number()?, &mut came.codes[..length]);
+            Ok(placed(answer, length))
         }
         [Word("inverse"), _, a] => Ok(match field.inverse(code(a)?) {
             Some(b) => Answer::Number(b),
@@ -76,13 +75,13 @@ fn call_on<F: Field>(
 
 // A call on a field, or on the run over it. Unless it is done, the run should stay as it was.
 pub fn field_call<F: Field>(
-    alloc: Global,
     field: F,
     run: &mut Run<F>,
     call: &[Part<'_>],
+    came: &mut Values,
 ) -> Result<Answer, CallError> {
     let before = look_at(run);
-    let answer = call_on(alloc, field, run, call)?;
+    let answer = call_on(field, run, call, came)?;
     if answer == Answer::Done || before == look_at(run) {
         return Ok(answer);
     }
