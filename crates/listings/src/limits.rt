@@ -57,8 +57,11 @@ pub fn lengths(tally: &mut Tally<'_>) -> io::Result<()> {
     codes[1] = 10;
     let n = put_long(&mut file, 2);
     let file = &file[..n];
-    damaged("32,769 bytes", file, 10, TooLong).try_out(tally, &mut [UNTOUCHED_CODE; 16384])?;
-    damaged("32,769 bytes into 16,383 codes", file, 10, TooLong).try_out(
+    damaged("32,769 bytes", file, (10, 0, 0), TooLong).try_out(
+        tally,
+        &mut [UNTOUCHED_CODE; 16384],
+    )?;
+    damaged("32,769 bytes into 16,383 codes", file, (10, 0, 0), TooLong).try_out(
         tally,
         &mut [UNTOUCHED_CODE; 16383],
     )?;
@@ -73,11 +76,11 @@ pub fn places(tally: &mut Tally<'_>) -> io::Result<()> {
     damaged(
         "a good file into 16,383 codes",
         b"S,B,1,0\nE,0\n",
-        11,
+        (11, 0, 0),
         Place,
     )
     .try_out(tally, &mut [UNTOUCHED_CODE; 16383])?;
-    damaged("an empty file into 16,383 codes", b"", 11, Place).try_out(
+    damaged("an empty file into 16,383 codes", b"", (11, 0, 0), Place).try_out(
         tally,
         &mut [UNTOUCHED_CODE; 16383],
     )

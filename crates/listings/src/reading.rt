@@ -13,12 +13,13 @@ struct Held<'a> {
     codes: &'a [u32],
 }
 
-// A file, and what is due for it: its list, or the fault that it is refused with, and its number.
+// A file, and what is due for it: its list, or the fault that it is refused with, and its number, line and field as they
+// are told.
 #[derive(Clone, Copy)]
 pub struct File<'a> {
     what: &'a str,
     bytes: &'a [u8],
-    due: Result<Held<'a>, (u32, FileFault)>,
+    due: Result<Held<'a>, ((u32, u32, u32), FileFault)>,
 }
 
 pub fn good<'a>(
@@ -44,13 +45,13 @@ pub fn good<'a>(
 pub fn damaged<'a, E: Into<FileFault>>(
     what: &'a str,
     bytes: &'a [u8],
-    number: u32,
+    told: (u32, u32, u32),
     fault: E,
 ) -> File<'a> {
     File {
         what,
         bytes,
-        due: Err((number, fault.into())),
+        due: Err((told, fault.into())),
     }
 }
 
@@ -81,7 +82,9 @@ impl File<'_> {
 
     fn is_refused_with(&self, fault: FileFault) -> bool {
         match self.due {
-            Err((number, due)) => fault.number() == number && fault == due,
+            Err((told, due)) => {
+                (fault.number(), fault.line(), fault.field()) == told && fault == due
+            }
             Ok(_) => false,
         }
     }
